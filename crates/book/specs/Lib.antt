@@ -1,0 +1,4 @@
+pub mod Read
+pub mod Meaning
+pub mod Answer
+pub mod Joined

@@ -1,0 +1,5 @@
+pub mod Steps
+pub mod Walk
+pub mod Clause
+pub mod Tree
+pub mod Meaning
