@@ -393,10 +393,7 @@ impl Cursor {
         match self.parts(s, n) {
             ClauseStep::Refused(r) => ClauseStep::Refused(r),
             ClauseStep::Got(l, c) => {
-                let start = Cursor {
-                    at: c.at,
-                    left: 64,
-                };
+                let start = Cursor { at: c.at, left: 64 };
                 match start.constraint(s, l.variables, 16) {
                     Step::Refused(r) => ClauseStep::Refused(r),
                     Step::Moved(past) => ClauseStep::Got(l, past),
