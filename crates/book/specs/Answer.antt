@@ -1,6 +1,6 @@
 -- What a reader's answer says in document 01's numbers: accepted is 0 at 0, with the book that was read; a refusal has its number and place.
 use Prim.Native.Nat.{ℕ}
-use mathlib.Core.Path.{_≡_}
+use mathlib.Core.Path.{_≡_, ap}
 use mathlib.Core.List.{List}
 use Rattle.meaning.specs.Book.{Book}
 use Rattle.book.specs.declared.Reading.{Reading}
@@ -32,3 +32,7 @@ answer s = told s (read s)
 pub record Answers (s : List ℕ) (r : Reading) : Type 0 where
   pub is : r ≡ read s
   pub tells : told s r ≡ answer s
+
+pub answers : (s : List ℕ) (r : Reading) → r ≡ read s → Answers s r
+unfolding answer
+answers s r e = record { is = e; tells = ap (told s) e }

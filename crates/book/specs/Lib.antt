@@ -1,4 +1,3 @@
 pub mod Read
 pub mod Meaning
 pub mod Answer
-pub mod Joined
