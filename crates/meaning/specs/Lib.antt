@@ -5,3 +5,6 @@ pub mod Derivation
 pub mod System
 pub mod State
 pub mod Model
+pub mod Wf
+pub mod Laws
+pub mod Conversions
