@@ -5,7 +5,7 @@ use mathlib.Core.Option.{Option, none, some}
 use mathlib.Core.List.{List, [], _∷_, _++_, reverse, reverseAux, reverse-cons, reverse-reverse}
 use Prim.Native.Nat.{ℕ, zero, suc, _≤_, zero-le, suc-le-suc}
 use native.Mathlib.Nat.{le-step}
-use lib.ListN.{length, length-map, length-reverse}
+use lib.ListN.{length, take, length-reverse}
 use lib.Dec.{eqb}
 use borrow.Author.Tests.{eqb-true, eqb-false, eq-eqb}
 use Rattle.meaning.specs.Book.{Book, Fact, Step, Instance, head, body}
@@ -30,6 +30,12 @@ module _ (b : Book) (S : System) where
   follows-moves σ [] h = refl
   follows-moves σ (m ∷ ms) h =
       λ i. record { step = m .step; next = h .2 i } ∷ (follows-moves (m .next) ms (h .3) ∙ ap (λ (x : S .State). moves b S x (steps b S ms)) (h .2)) i
+
+  -- the first k moves of a trace are a trace: what is shown of a last state holds of every state
+  pub follows-take : (k : ℕ) (σ : S .State) (ms : List (Move b S)) → Follows b S σ ms → Follows b S σ (take k ms)
+  follows-take zero σ ms h = tt
+  follows-take (suc k) σ [] h = tt
+  follows-take (suc k) σ (m ∷ ms) h = (h .0, h .1, h .2, follows-take k (m .next) ms (h .3))
 
 -- ---- one more step at a derivation's end
 
@@ -106,6 +112,7 @@ module _ (b : Book) (S : System) (L : Laws (length (b .arities)) S) (w : Wf b) w
       -- this step wrote the relation, so it wrote the fact
       wrote : eqb (head b s .rel) (g .rel) ≡ true → head b s ≡ g
       wrote t = L .put-same σ (head b s) g f (head-there w s i) (eqb-true (head b s .rel) (g .rel) t) h
+
       go : (t : Bool) → eqb (head b s .rel) (g .rel) ≡ t → (o : Option Fact) → body b s ≡ o → Derives b (reverse (turn t s o (g .rel) (λ q. back b q τ))) g
       go true t none o = rw (← (wrote t)) (derives-more b s [] tt i o)
       go true t (some q) o =

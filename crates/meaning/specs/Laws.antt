@@ -1,17 +1,17 @@
 -- The laws that a system must have for the theorems, and the systems of places have them.
-use mathlib.Core.Path.{_≡_, refl, sym, ap, _∙_}
+use mathlib.Core.Path.{_≡_, refl, sym, _∙_}
 use mathlib.Core.Logic.{_≢_}
 use mathlib.Core.Bool.{Bool, true, false}
-use mathlib.Core.List.{List, [], _∷_}
+use mathlib.Core.List.{[]}
 use Prim.Native.Nat.{ℕ, zero, suc, _<_}
 use native.Mathlib.Omega.{arith}
 use lib.ListN.{length, getD, set, replicate, length-map, length-set, length-replicate}
 use lib.Seq.{getD-set-same, getD-set-other}
-use lib.IntN.{ℤ}
 use lib.Dec.{T}
-use Rattle.meaning.specs.Book.{Book, Fact, Window}
+use Rattle.meaning.specs.Book.{Book, Fact}
 use Rattle.meaning.specs.System.{System}
-use Rattle.meaning.specs.State.{Control, State, Shaped, withPlaces, bit, flags}
+use Rattle.meaning.specs.State.{Control, State, withPlaces, bit, flags}
+use Rattle.meaning.specs.Rows.{shaped-length}
 
 -- over R relations: a state that fits has a place for each
 pub record Laws (R : ℕ) (S : System) : Type 1 where
@@ -35,19 +35,13 @@ pub record ControlLaws (C : Control) : Type 1 where
   pub next-held : (R : ℕ) (k : C .Ctl) (r : ℕ) → Fit R k → r < R → T (C .held r (C .next r k))
   pub next-other : (k : C .Ctl) (q r : ℕ) → q ≢ r → T (C .held r (C .next q k)) → T (C .held r k)
 
-pub shaped-length : (w : ℕ → ℕ → Window) (ns : List ℕ) (vs : List (List ℤ)) → Shaped w ns vs → length vs ≡ length ns
-shaped-length w [] [] h = refl
-shaped-length w [] (v ∷ vs) h = absurd h
-shaped-length w (a ∷ ns) [] h = absurd h
-shaped-length w (a ∷ ns) (v ∷ vs) h = ap suc (shaped-length (λ r. w (suc r)) ns vs (h .2))
-
 -- a control that fits, and a row for each relation
 pub record Sized (b : Book) (C : Control) (K : ControlLaws C) (σ : State C) : Type 0 where
   pub fit : K .Fit (length (b .arities)) (σ .ctl)
   pub size : length (σ .rows) ≡ length (b .arities)
 
 module _ (b : Book) (C : Control) (K : ControlLaws C) where
-  pub laws : Laws (length (b .arities)) (withPlaces b C)
+  unfoldable pub laws : Laws (length (b .arities)) (withPlaces b C)
   laws = record {
     Fits = Sized b C K;
     fits-init = λ σ i. record { fit = rw (i .started) (K .fit-start (length (b .arities))); size = shaped-length _ (b .arities) (σ .rows) (i .shaped) };
@@ -61,12 +55,12 @@ module _ (b : Book) (C : Control) (K : ControlLaws C) where
 
 -- ---- flags
 
-no-flag : (R r : ℕ) → getD (replicate R false) r false ≡ false
+pub no-flag : (R r : ℕ) → getD (replicate R false) r false ≡ false
 no-flag zero r = refl
 no-flag (suc R) zero = refl
 no-flag (suc R) (suc r) = no-flag R r
 
-pub flags-laws : ControlLaws flags
+unfoldable pub flags-laws : ControlLaws flags
 flags-laws = record {
   Fit = λ R k. length k ≡ R;
   fit-start = λ R. length-replicate R false;

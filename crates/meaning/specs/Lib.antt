@@ -6,5 +6,8 @@ pub mod System
 pub mod State
 pub mod Model
 pub mod Wf
+pub mod Rows
 pub mod Laws
 pub mod Conversions
+pub mod Main
+pub mod Stated

@@ -63,6 +63,6 @@ module _ {b : Book} (w : Wf b) (s : Step) (i : Instance b s) where
   head-in-window =
       let c = clauseOf b s in
       within-map (placeWindow b (c .head .rel)) (λ (v : ℕ). getD (s .vals) v (pos 0)) (c .head .args)
-        (λ j l. argument-window b c j (getD (s .vals) (getD (c .head .args) j 0) (pos 0))
-          (within-at (variableWindow b c) (s .vals) (i .within) (getD (c .head .args) j 0)
-            (rw (i .count) (each-at (λ (v : ℕ). v < c .vars) 0 (c .head .args) (w .heads s i .known) j l))))
+      (λ j l. argument-window b c j (getD (s .vals) (getD (c .head .args) j 0) (pos 0))
+      (within-at (variableWindow b c) (s .vals) (i .within) (getD (c .head .args) j 0)
+      (rw (i .count) (each-at (λ (v : ℕ). v < c .vars) 0 (c .head .args) (w .heads s i .known) j l))))
