@@ -69,7 +69,7 @@ pub writers-length : (b : Book) (r : ℕ) (τ : List Step) → length (lastWrite
 unfolding lastWriters
 writers-length b r τ = rw length-reverse (rw length-reverse at (back-length b r (reverse τ)))
 
--- e, newest first, is all that is walked back from o, and with one more step it is all that is walked back from that step's head
+-- e, newest first, is all of the walk back from a step's body, and with the step it is all of the walk back from its head
 back-own : (b : Book) (s : Step) (e : List Step) → before (body b s) (λ q. back b q e) ≡ e → back b (head b s .rel) (s ∷ e) ≡ s ∷ e
 unfolding back
 back-own b s e h = rw (eq-eqb (head b s .rel) (head b s .rel) refl) (ap (λ (l : List Step). s ∷ l) h)
@@ -84,12 +84,14 @@ pub writers-derivation : (b : Book) (d : List Step) (f : Fact) → Derives b d f
 unfolding lastWriters
 writers-derivation b d f h = ap reverse (rw (h .last) at (back-whole b none d [] (h .chain) refl)) ∙ reverse-reverse d
 
-module _ (b : Book) (S : System) (L : Laws (length (b .arities)) S) (w : Wf b) where
-  -- every state of a trace fits
-  pub fits-final : (σ : S .State) (ms : List (Move b S)) → L .Fits σ → Follows b S σ ms → L .Fits (final b S σ ms)
-  fits-final σ [] f h = f
-  fits-final σ (m ∷ ms) f h = fits-final (m .next) ms (rw (h .2) (L .fits-put σ (head b (m .step)) f)) (h .3)
+-- ---- in a system that has the laws
 
+-- every state of a trace fits
+pub fits-final : (b : Book) (S : System) (L : Laws (length (b .arities)) S) (σ : S .State) (ms : List (Move b S)) → L .Fits σ → Follows b S σ ms → L .Fits (final b S σ ms)
+fits-final b S L σ [] f h = f
+fits-final b S L σ (m ∷ ms) f h = fits-final b S L (m .next) ms (rw (h .2) (L .fits-put σ (head b (m .step)) f)) (h .3)
+
+module _ (b : Book) (S : System) (L : Laws (length (b .arities)) S) (w : Wf b) where
   -- ---- derivation to trace: the steps are the same
 
   pub forth : (σ : S .State) (o : Option Fact) (d : List Step) → L .Fits σ → Enabled S o σ → Chain b o d

@@ -1,11 +1,11 @@
 -- The laws that a system must have for the theorems, and the systems of places have them.
 use mathlib.Core.Path.{_≡_, refl, sym, _∙_}
 use mathlib.Core.Logic.{_≢_}
-use mathlib.Core.Bool.{Bool, true, false}
+use mathlib.Core.Bool.{true, false}
 use mathlib.Core.List.{[]}
 use Prim.Native.Nat.{ℕ, zero, suc, _<_}
 use native.Mathlib.Omega.{arith}
-use lib.ListN.{length, getD, set, replicate, length-map, length-set, length-replicate}
+use lib.ListN.{length, getD, replicate, length-map, length-set, length-replicate}
 use lib.Seq.{getD-set-same, getD-set-other}
 use lib.Dec.{T}
 use Rattle.meaning.specs.Book.{Book, Fact}

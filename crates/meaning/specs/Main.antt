@@ -3,7 +3,7 @@ use mathlib.Core.Path.{_≡_, refl, ap, _∙_}
 use mathlib.Core.Logic.{_↔_}
 use mathlib.Core.Option.{Option, none, some}
 use mathlib.Core.List.{List, [], _∷_}
-use Prim.Native.Nat.{ℕ, _≤_}
+use Prim.Native.Nat.{_≤_}
 use lib.ListN.{length, length-map}
 use Rattle.meaning.specs.Constraint.{Constraint}
 use Rattle.meaning.specs.Book.{Book, Fact, Step, placeWindow, head, query}
@@ -64,7 +64,13 @@ module _ {b : Book} (l : Limits b) (S : System) (L : Laws (length (b .arities)) 
   pub model-trace : {m : List Constraint} → Model b m → ¬ Reachable b S (query b)
   model-trace m = excludes-trace (m .excludes)
 
--- ---- in every system of places: windows, and the first state of a converted trace
+-- ---- in every system of places: sizes, windows, and the first state of a converted trace
+
+-- every state of a trace has a control that fits and a row for each relation
+pub states-sized : {b : Book} (C : Control) (K : ControlLaws C) {σ : State C} (ms : List (Move b (withPlaces b C))) → Initial b C σ → Follows b (withPlaces b C) σ ms
+    → Sized b C K (final b (withPlaces b C) σ ms)
+unfolding laws
+states-sized {b} C K {σ} ms i h = fits-final b (withPlaces b C) (laws b C K) σ ms (laws b C K .fits-init σ i) h
 
 module _ {b : Book} (l : Limits b) (C : Control) where
   pub first-initial : Initial b C (first b C)
@@ -85,12 +91,6 @@ module _ {b : Book} (l : Limits b) (C : Control) where
   states-in-window {σ} ms i h = shaped-final σ ms (i .shaped) h
 
 module _ {b : Book} (l : Limits b) (C : Control) (K : ControlLaws C) where
-  -- and its control and rows as they must be
-  pub states-sized : {σ : State C} (ms : List (Move b (withPlaces b C))) → Initial b C σ → Follows b (withPlaces b C) σ ms
-      → Sized b C K (final b (withPlaces b C) σ ms)
-  unfolding laws
-  states-sized {σ} ms i h = fits-final b (withPlaces b C) (laws b C K) (limits-wf l) σ ms (laws b C K .fits-init σ i) h
-
   pub derivation-to-first-trace : {d : List Step} {f : Fact} → Derives b d f → Reaches b (withPlaces b C) (first b C) (moves b (withPlaces b C) (first b C) d) f
   derivation-to-first-trace h = derivation-to-trace l (withPlaces b C) (laws b C K) (first-initial l C) h
 

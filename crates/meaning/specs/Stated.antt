@@ -1,19 +1,17 @@
 -- The step as document 01 states it is the step of the system of flags.
-use mathlib.Core.Path.{_≡_, refl, sym, _∙_}
+use mathlib.Core.Path.{_≡_, refl, _∙_}
 use mathlib.Core.Logic.{_↔_}
-use mathlib.Core.Bool.{Bool, true, false}
+use mathlib.Core.Bool.{true, false}
 use mathlib.Core.Option.{Option, none, some}
 use mathlib.Core.List.{List, [], _∷_}
-use Prim.Native.Nat.{ℕ, _<_}
+use Prim.Native.Nat.{_<_}
 use native.Mathlib.Decide.{ℕ-discrete}
-use native.Mathlib.Omega.{arith}
 use lib.ListN.{length, getD, length-set}
-use lib.Dec.{T}
 use lib.Ieee.Bits.{is-true}
 use Rattle.meaning.specs.Book.{Book, Fact, Step, Instance, head, body}
 use Rattle.meaning.specs.Limits.{Limits}
 use Rattle.meaning.specs.System.{Enabled, Move, Follows}
-use Rattle.meaning.specs.State.{State, write, flags, Flagged, Replaced, Met, StepsTo}
+use Rattle.meaning.specs.State.{State, write, flags, Flagged, Met, StepsTo}
 use Rattle.meaning.specs.Wf.{limits-wf, head-there}
 use Rattle.meaning.specs.Rows.{set-replaces, replaced-set}
 
@@ -69,10 +67,8 @@ StepsAlong b σ (m ∷ ms) = StepsTo b (m .step) σ (m .next) × StepsAlong b (m
 pub trace-is-stated : {b : Book} → Limits b → (σ : State flags) → length (σ .ctl) ≡ length (b .arities) → length (σ .rows) ≡ length (b .arities)
     → (ms : List (Move b (Flagged b))) → StepsAlong b σ ms ↔ Follows b (Flagged b) σ ms
 trace-is-stated l σ c r [] = (λ h. tt, λ h. tt)
-trace-is-stated {b} l σ c r (m ∷ ms) =
-    let one = step-is-stated l (m .step) σ c r (m .next) in
-    let rest : m .next ≡ write flags (head b (m .step)) σ → StepsAlong b (m .next) ms ↔ Follows b (Flagged b) (m .next) ms
-    = λ p. trace-is-stated l (m .next) (rw (p, length-set) c) (rw (p, length-set) r) ms in (
-      λ h. let (i, e, p) = one .0 (h .0) in (i, e, p, rest p .0 (h .1)),
-      λ h. (one .1 (h .0, h .1, h .2), rest (h .2) .1 (h .3)),
+trace-is-stated l σ c r (m ∷ ms) =
+    let one = step-is-stated l (m .step) σ c r (m .next) in (
+      λ h. let (i, e, p) = one .0 (h .0) in (i, e, p, trace-is-stated l (m .next) (rw (p, length-set) c) (rw (p, length-set) r) ms .0 (h .1)),
+      λ h. (one .1 (h .0, h .1, h .2), trace-is-stated l (m .next) (rw (h .2, length-set) c) (rw (h .2, length-set) r) ms .1 (h .3)),
     )

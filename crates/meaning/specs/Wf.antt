@@ -57,12 +57,15 @@ module _ {b : Book} (w : Wf b) (s : Step) (i : Instance b s) where
   unfolding head
   head-full = rw length-map (w .heads s i .full)
 
+  argument-inside : (j : ℕ) → j < length (clauseOf b s .head .args)
+      → Inside (placeWindow b (clauseOf b s .head .rel) j) (getD (s .vals) (getD (clauseOf b s .head .args) j 0) (pos 0))
+  argument-inside j l =
+      let c = clauseOf b s in
+      let k = getD (c .head .args) j 0 in
+      let small : k < length (s .vals) = rw (i .count) (each-at (λ (v : ℕ). v < c .vars) 0 (c .head .args) (w .heads s i .known) j l) in
+      argument-window b c j (getD (s .vals) k (pos 0)) (within-at (variableWindow b c) (s .vals) (i .within) k small)
+
   -- a head's values lie in their places' windows
   pub head-in-window : Within (placeWindow b (head b s .rel)) (head b s .vals)
   unfolding head
-  head-in-window =
-      let c = clauseOf b s in
-      within-map (placeWindow b (c .head .rel)) (λ (v : ℕ). getD (s .vals) v (pos 0)) (c .head .args)
-      (λ j l. argument-window b c j (getD (s .vals) (getD (c .head .args) j 0) (pos 0))
-      (within-at (variableWindow b c) (s .vals) (i .within) (getD (c .head .args) j 0)
-      (rw (i .count) (each-at (λ (v : ℕ). v < c .vars) 0 (c .head .args) (w .heads s i .known) j l))))
+  head-in-window = within-map (placeWindow b (head b s .rel)) (λ (v : ℕ). getD (s .vals) v (pos 0)) (clauseOf b s .head .args) argument-inside
