@@ -5,3 +5,9 @@ pub mod Derivation
 pub mod System
 pub mod State
 pub mod Model
+pub mod Wf
+pub mod Rows
+pub mod Laws
+pub mod Conversions
+pub mod Main
+pub mod Stated
