@@ -49,12 +49,6 @@ module _ {A : Type 0} {x : A} where
   unfolding pick
   if-not-less a b y z f g h e = rw (simp (toZ-ofZ w32 a f, toZ-ofZ w32 b g) at h) e
 
--- a refusal is handed on
-pub reading-kept : (y : Reading) (go : Header → Reading) {r : Reading} → r ≡ y → ((h : Header) → r ≡ readings.Good h → ⊥) → r ≡ readingThen y go readings.Refused
-unfolding readingThen
-reading-kept (readings.Good h) go e n = absurd (n h e)
-reading-kept (readings.Refused f) go e n = e
-
 -- one arity less
 pub arities-none : (k : ℕ) (s : List ℕ) (q : ℕ) (c : Cursor) {x : Step} → k ≤ 0 → x ≡ Moved c → x ≡ aritiesAt k s q c
 unfolding aritiesAt
@@ -91,7 +85,6 @@ pub ruleset ways = (
   cursors.ways,
   reading-good,
   reading-stop,
-  reading-kept,
   value-signed,
   if-less,
   if-not-less,

@@ -228,18 +228,26 @@ fn clauses(
 pub fn read_book(book: &[u8]) -> Reading
     ensures { λ r. ⌜ Answers (now (book .entry)) r ⌝ }
 {
-    let read = trailer_of(book);
-    let Reading::Good(h) = read else {
-        return read;
-    };
-    let start = h.start;
-    let first = cursor::Cursor { at: 0, left: 0 };
-    match arities(first, &book[..start], h.query as usize, h.relations) {
-        cursor::Step::Refused(r) => Reading::Refused(r),
-        cursor::Step::Moved(c) => match clauses(c, book, start, h.relations, start, h.count) {
-            cursor::Step::Refused(r) => Reading::Refused(r),
-            cursor::Step::Moved(_) => Reading::Good(h),
-        },
+    match trailer_of(book) {
+        Reading::Refused(r) => Reading::Refused(r),
+        Reading::Good(h) => {
+            let start = h.start;
+            let first = cursor::Cursor { at: 0, left: 0 };
+            match arities(first, &book[..start], h.query as usize, h.relations) {
+                cursor::Step::Refused(r) => Reading::Refused(r),
+                cursor::Step::Moved(c) => match clauses(
+                    c,
+                    book,
+                    start,
+                    h.relations,
+                    start,
+                    h.count,
+                ) {
+                    cursor::Step::Refused(r) => Reading::Refused(r),
+                    cursor::Step::Moved(_) => Reading::Good(h),
+                },
+            }
+        }
     }
 }
 
@@ -275,4 +283,3 @@ pub fn constraint_of(book: &[u8], k: usize) -> &[u8]
         &book[..0]
     }
 }
-

@@ -245,3 +245,11 @@ signed-twos w {n} {m} {r} h e k p =
       is = read w64 k p .is ∙ twos-is w n f ∙ ap (toZ w) e;
       fits = subst (λ (x : ℕ). SFits w (toZ w x)) e (sfits-toZ f);
     }
+
+-- such a result, read back from 64 bits and cast to its own width
+module _ {w : Width} {x r : ℤ} (h : mag r < 2 ^ hbits w64) (p : Signed w x r) where
+  pub narrow-fits : SFits w (toZ w64 (ofZ w64 r))
+  narrow-fits = sfits-is (own w64 r h ∙ p .is) (p .fits)
+
+  pub narrow-is : toZ w (ofZ w (toZ w64 (ofZ w64 r))) ≡ x
+  narrow-is = back (own w64 r h ∙ p .is) (p .fits)
