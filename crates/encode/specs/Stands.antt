@@ -6,7 +6,7 @@ use mathlib.Core.Path.{_≡_, refl, sym, subst, _∙_}
 use mathlib.Core.Logic.{_↔_}
 use mathlib.Core.List.{List, [], _∷_, _++_}
 use lib.ListN.{length, getD, take, drop, length-take}
-use lib.Seq.{drop-cons, getD-take, take-length}
+use lib.Seq.{drop-cons, getD-take, getD-drop, take-length}
 
 unfoldable pub Stands : List ℕ → ℕ → List ℕ → Type 0
 Stands s p [] = p ≤ length s
@@ -62,6 +62,9 @@ module _ (s : List ℕ) where
   is-stands p (b ∷ w) k e =
       let f : getD s p 0 ∷ take (length w) (drop (p + 1) s) ≡ b ∷ w = rw (add-one p) (rw (drop-cons s p 0 (omega arith)) at e) in
       (omega arith, (cc), is-stands (p + 1) w (omega arith) (cc))
+
+  pub stands-get : (p : ℕ) (w : List ℕ) (i : ℕ) → Stands s p w → i < length w → getD s (p + i) 0 ≡ getD w i 0
+  stands-get p w i h k = rw (← (stands-is p w h), getD-take, getD-drop)
 
   pub stands-whole : (w : List ℕ) → Stands s 0 w → length w ≡ length s → s ≡ w
   stands-whole w h e = sym (take-length s) ∙ rw (← e) (stands-is 0 w h)
