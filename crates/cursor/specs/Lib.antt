@@ -3,3 +3,5 @@ pub mod Walk
 pub mod Clause
 pub mod Tree
 pub mod Meaning
+pub mod Inverse
+pub mod Sound
