@@ -1,3 +1,5 @@
 pub mod Read
 pub mod Meaning
 pub mod Answer
+pub mod Joined
+pub mod Trailer

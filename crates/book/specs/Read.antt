@@ -73,7 +73,7 @@ aritiesAt (suc k) s q c = stepThen (arityAt s q c) (aritiesAt k s q) Refused
 
 unfoldable pub recordAt : List ℕ → ℕ → ℕ → ℕ → Cursor → Step
 recordAt s start n p c =
-    pick (eqb (c .at) (u16At s p)) (clauseThen (clauseAt (take start s) n c) (λ _ next. Moved next) Refused) (Refused (refuse 4 p))
+    pick (eqb (c .at) (u16At s p)) (clauseThen (clauseAt (take start s) n (record { at = c .at; left = 0 })) (λ _ next. Moved next) Refused) (Refused (refuse 4 p))
 
 unfoldable pub clausesAt : ℕ → List ℕ → ℕ → ℕ → ℕ → Cursor → Step
 clausesAt zero s start n p c = pick (eqb (c .at) start) (Moved c) (Refused (refuse 4 (c .at)))

@@ -5,6 +5,8 @@ ghost use lib.ListN.{length};
 ghost use Rattle.book.specs.Read.{topArity, arityAt, aritiesAt, recordAt, clausesAt, headed, sized, trailer, read, entryAt, constraintOf};
 ghost use Rattle.whole.specs.Bytes.{u16At, i32At};
 ghost use Rattle.book.specs.Answer.{Answers};
+ghost use Rattle.book.specs.Joined.{Held};
+ghost use Rattle.book.specs.declared.Reading.the-variants.{Good};
 
 // What the trailer says: the window, where the index starts, how many clauses and relations there are, and the query relation.
 pub struct Header {
@@ -175,7 +177,8 @@ fn record_at(c: cursor::Cursor, book: &[u8], start: usize, n: u8, p: usize) -> c
     ensures { λ r. ⌜ r ≡ recordAt (now (book .entry)) start n p c ⌝ }
 {
     if c.at == short_at(book, p) {
-        match c.clause(&book[..start], n) {
+        let here = cursor::Cursor { at: c.at, left: 0 };
+        match here.clause(&book[..start], n) {
             cursor::ClauseStep::Refused(r) => cursor::Step::Refused(r),
             cursor::ClauseStep::Got(_, next) => cursor::Step::Moved(next),
         }
@@ -282,4 +285,25 @@ pub fn constraint_of(book: &[u8], k: usize) -> &[u8]
     } else {
         &book[..0]
     }
+}
+
+// The record of clause k of a book that was accepted with the header h: it is that clause of the meaning's book.
+pub fn record(book: &[u8], h: Header, k: usize) -> cursor::Clause
+    requires { ⌜ read (now book) ≡ Good h ⌝ }
+    requires { ⌜ k < h .count ⌝ }
+    ensures { λ r. ⌜ Held (now (book .entry)) h k r ⌝ }
+{
+    let start = h.start;
+    let cursor::ClauseStep::Got(l, _) = entry(book, start, k).parts(&book[..start], h.relations)
+    else {
+        return cursor::Clause {
+            variables: 0,
+            body: 255,
+            body_at: 0,
+            head: 0,
+            head_at: 0,
+            rule: 0,
+        };
+    };
+    l
 }

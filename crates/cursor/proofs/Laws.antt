@@ -6,7 +6,7 @@ use lib.ListN.{length}
 use mathlib.Core.List.{List}
 use mathlib.Core.Bool.{Bool, true, false}
 use lib.Dec.{ltb, leb, eqb}
-use borrow.Author.Tests.{ltb-true, leb-true, lt-ltb, le-ltb, le-leb, lt-leb, eq-eqb, ne-eqb}
+use borrow.Author.Tests.{lt-ltb, le-ltb, le-leb, lt-leb, eq-eqb, ne-eqb}
 use Rattle.cursor.specs.declared.Cursor.{Cursor}
 use Rattle.cursor.specs.declared.Refusal.{Refusal}
 use Rattle.cursor.specs.declared.Byte.{Byte}
@@ -27,7 +27,8 @@ use Rattle.cursor.specs.declared.ClauseStep.{ClauseStep}
 use Rattle.cursor.specs.declared.ClauseStep.the-variants as clauses
 use Rattle.cursor.specs.declared.NodeStep.{NodeStep}
 use Rattle.cursor.specs.declared.NodeStep.the-variants as node-steps
-use Rattle.cursor.specs.Steps.{pick, valueThen, byteThen, numberThen, stepThen, nodeThen, kinds, byteAt, nodeAt, belowAt, variableAt, relationAt, skipAt, refuse}
+use Rattle.cursor.specs.Inverse.{skip-read, relation-read}
+use Rattle.cursor.specs.Steps.{pick, valueThen, byteThen, numberThen, stepThen, nodeThen, kinds, byteAt, nodeAt, variableAt, relationAt, skipAt, refuse}
 
 module _ {A : Type 0} {x : A} where
   pub if-lt : (a b : ℕ) (y z : A) → a < b → x ≡ y → x ≡ pick (ltb a b) y z
@@ -208,31 +209,12 @@ unfolding argumentsAt
 more zero s v c h e = absurd (let z : ⊥ = omega arith in z)
 more (suc d) s v c h e = rw sub-one at e
 
--- bytes that were passed over are there
-skip-test : (t : Bool) (a b n : ℕ) (y : Step) (f : Refusal) {e : Cursor} → leb a b ≡ t → pick t y (steps.Refused f) ≡ steps.Moved e → a ≤ b
-unfolding pick
-skip-test true a b n y f h q = leb-true a b h
-skip-test false a b n y f h q = let z : _≡_ {A = ℕ} 0 1 = cc in absurd (let w : ⊥ = omega arith in w)
-
+-- bytes that were passed over are there, and a relation that was read is one
 pub skip-room : (s : List ℕ) (n : ℕ) (c : Cursor) {r : Step} {d : Cursor} → r ≡ skipAt s n c → r ≡ steps.Moved d → c .at + n ≤ length s
-unfolding skipAt
-skip-room s n c e g = skip-test (leb (c .at + n) (length s)) _ _ n _ _ refl (sym e ∙ g)
-
--- a byte that was read below n is below n
-below-test : (t : Bool) (b n : ℕ) (d e : Cursor) (f : Refusal) {a : ℕ} → ltb b n ≡ t → pick t (Got b d) (Refused f) ≡ Got a e → a < n
-unfolding pick
-below-test true b n d e f {a} h q = let z : b ≡ a = cc in omega (arith, ltb-true b n h)
-below-test false b n d e f h q = let z : _≡_ {A = ℕ} 0 1 = cc in absurd (let w : ⊥ = omega arith in w)
-
-below-byte : (y : Byte) (n : ℕ) (f : Refusal) (e : Cursor) {a : ℕ} →
-    byteThen y (λ b next. pick (ltb b n) (Got b next) (Refused f)) Refused ≡ Got a e → a < n
-unfolding byteThen
-below-byte (Got b d) n f e q = below-test (ltb b n) b n d e f refl q
-below-byte (Refused g) n f e q = let z : _≡_ {A = ℕ} 0 1 = cc in absurd (let w : ⊥ = omega arith in w)
+skip-room s n c e g = skip-read s n c (sym e ∙ g) .there
 
 pub relation-below : (s : List ℕ) (n : ℕ) (c : Cursor) {r : Byte} {b : ℕ} {d : Cursor} → r ≡ relationAt s n c → r ≡ Got b d → b < n
-unfolding relationAt belowAt
-relation-below s n c {r} {b} {d} e g = below-byte (byteAt s c) n (refuse 5 (c .at)) d (sym e ∙ g)
+relation-below s n c e g = relation-read s n c (sym e ∙ g) .below
 
 -- by way of what a loop's invariant says is due from here
 pub via : {A : Type 0} {x y z : A} → y ≡ z → x ≡ y → x ≡ z
