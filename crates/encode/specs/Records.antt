@@ -2,7 +2,7 @@
 use Prim.Native.Nat.{ℕ, suc, _+_, _-_, _≤_, _<_}
 use native.Mathlib.Nat.{zero-add}
 use native.Mathlib.Omega.{arith}
-use mathlib.Core.Path.{_≡_, refl, sym, ap, _∙_}
+use mathlib.Core.Path.{_≡_, refl, sym, _∙_}
 use mathlib.Core.Option.{Option, none, some}
 use mathlib.Core.List.{List, [], _∷_, _++_}
 use lib.ListN.{length, getD, length-append}
@@ -17,7 +17,7 @@ use Rattle.cursor.specs.Steps.{pick, byteThen, stepThen, relationAt, variableAt
 use Rattle.cursor.specs.Clause.{argumentsAt, factAt, bodyAt, clauseThen, partsAt, clauseAt}
 use Rattle.cursor.specs.Meaning.{atomIn, bodyIn, treeOf, treeIn, clauseIn}
 use Rattle.encode.specs.Encode.{atomBytes, bodyBytes, constraintBytes, clauseBytes}
-use Rattle.encode.specs.Stands.{Stands, stands-at, stands-split, stands-is, stands-get}
+use Rattle.encode.specs.Stands.{Stands, stands-split, stands-is, stands-get}
 use Rattle.encode.specs.Reads.{at, byte-read, below-read, tree-got, constraint-read}
 
 arguments-read : (s : List ℕ) (v p l : ℕ) (xs : List ℕ) → Each (λ (i : ℕ). i < v) xs → Stands s p xs →
@@ -106,21 +106,27 @@ parts-stand s p c h =
 module _ (s arities : List ℕ) (few : length arities ≤ 16) (front : Stands s 0 arities) (p : ℕ) (c : Clause) (lim : ClauseLimits arities c) (h : Parts s p c) where
   parts-read : (l : ℕ) → partsAt s (length arities) (at p l) ≡ clauses.Got (layOf p c) (at (ruleStart p c) l)
   unfolding partsAt variableAt byteThen layOf headStart ruleStart
-  parts-read l = rw (below-read s 6 17 p l (h .room) (h .vars) (omega (arith, lim .few)),
-      body-read s arities few front (c .vars) (p + 1) l (c .body) (lim .body) (h .body),
-      fact-read s arities few front (c .vars) (p + 1 + length (bodyBytes (c .body))) l (c .head) (lim .head) (h .head))
+  parts-read l = rw (
+    below-read s 6 17 p l (h .room) (h .vars) (omega (arith, lim .few)),
+    body-read s arities few front (c .vars) (p + 1) l (c .body) (lim .body) (h .body),
+    fact-read s arities few front (c .vars) (p + 1 + length (bodyBytes (c .body))) l (c .head) (lim .head) (h .head),
+  )
 
   left-is : 64 ≡ nodes (c .rule) + (64 - nodes (c .rule))
   left-is = omega (arith, lim .rule .few)
 
   pub clause-read : (l : ℕ) → clauseAt s (length arities) (at p l) ≡ clauses.Got (layOf p c) (at (p + length (clauseBytes c)) (64 - nodes (c .rule)))
   unfolding clauseAt clauseThen stepThen layOf
-  clause-read l = rw (parts-read l,
-      constraint-read s (c .vars) (c .rule) 16 (lim .rule .shallow) (lim .rule .numbers) (ruleStart p c) 64 (64 - nodes (c .rule)) left-is (h .rule),
-      h .end)
+  clause-read l = rw (
+    parts-read l,
+    constraint-read s (c .vars) (c .rule) 16 (lim .rule .shallow) (lim .rule .numbers) (ruleStart p c) 64 (64 - nodes (c .rule)) left-is (h .rule),
+    h .end,
+  )
 
   pub clause-is : clauseIn s (layOf p c) ≡ c
   unfolding clauseIn treeIn treeOf layOf
-  clause-is = rw (body-is s arities few front (c .vars) (p + 1) (c .body) (lim .body) (h .body),
-      atom-is s arities few front (c .vars) (headStart p c) (c .head) (lim .head) (h .head),
-      tree-got s (c .vars) (c .rule) 16 (lim .rule .shallow) (lim .rule .numbers) (ruleStart p c) 64 (64 - nodes (c .rule)) _ left-is refl (h .rule))
+  clause-is = rw (
+    body-is s arities few front (c .vars) (p + 1) (c .body) (lim .body) (h .body),
+    atom-is s arities few front (c .vars) (headStart p c) (c .head) (lim .head) (h .head),
+    tree-got s (c .vars) (c .rule) 16 (lim .rule .shallow) (lim .rule .numbers) (ruleStart p c) 64 (64 - nodes (c .rule)) _ left-is refl (h .rule),
+  )

@@ -24,10 +24,10 @@ use Rattle.book.specs.Read.{sized, headed, trailer, readingThen, topArity, arit
 use Rattle.book.specs.Meaning.{upTo, clauseNumber, bookIn}
 use Rattle.book.specs.Answer.{accepted, told, answer}
 use Rattle.encode.specs.Encode.{spell, clauseBytes, starts, indexStart, trailerBytes, encode}
-use Rattle.encode.specs.Stands.{Stands, stands-at, stands-room, stands-split, stands-front, stands-get, stands-is, stands-self}
+use Rattle.encode.specs.Stands.{Stands, stands-at, stands-split, stands-front, stands-get, stands-is, stands-self}
 use Rattle.encode.specs.Digits.{u16-length, i32-length, u16-read, i32-read}
 use Rattle.encode.specs.Reads.{at, spell-length, byte-read}
-use Rattle.encode.specs.Records.{layOf, Parts, parts-stand, clause-read, clause-is}
+use Rattle.encode.specs.Records.{Parts, parts-stand, clause-read, clause-is}
 
 -- ---- arities
 
@@ -59,11 +59,14 @@ module _ (s arities : List ℕ) (start : ℕ) (few : length arities ≤ 16) (fro
       let x = stands-split (take start s) p (clauseBytes c) (spell clauseBytes cs) h in
       let y = stands-split s q (u16Bytes p) (spell u16Bytes (starts (p + length (clauseBytes c)) cs)) i in
       let r = records-read cs (p + length (clauseBytes c)) (q + 2) (64 - nodes (c .rule)) (f .1) (x .1) (rw (u16-length p) at (y .1))
-          (omega (arith, length-append (clauseBytes c) (spell clauseBytes cs))) in
-      (r .0,
-      rw (eq-eqb p (u16At s q) (sym (u16-read s q p (y .0))),
-      clause-read (take start s) arities few front p c (f .0) (parts-stand (take start s) p c (x .0)) l)
-      (r .1))
+      (omega (arith, length-append (clauseBytes c) (spell clauseBytes cs))) in (
+        r .0,
+        rw (
+          eq-eqb p (u16At s q) (sym (u16-read s q p (y .0))),
+          clause-read (take start s) arities few front p c (f .0) (parts-stand (take start s) p c (x .0)) l,
+        )
+            (r .1),
+      )
 
   -- f k is what stands where entry k says
   records-are : (cs : List meant.Clause) (p q : ℕ) (f : ℕ → meant.Clause) → Each (ClauseLimits arities) cs → Stands (take start s) p (spell clauseBytes cs) →
@@ -77,8 +80,14 @@ module _ (s arities : List ℕ) (start : ℕ) (few : length arities ≤ 16) (fro
       let o : Parts (take start s) p c = parts-stand (take start s) p c (x .0) in
       let z : q + 0 * 2 ≡ q = omega arith in
       let next : (k : ℕ) → q + suc k * 2 ≡ q + 2 + k * 2 = λ k. omega arith in
-      rw (e 0, z, u16-read s q p (y .0), clause-read (take start s) arities few front p c (lim .0) o 0, clause-is (take start s) arities few front p c (lim .0) o,
-      records-are cs (p + length (clauseBytes c)) (q + 2) (λ k. f (suc k)) (lim .1) (x .1) (rw (u16-length p) at (y .1)) (λ k. rw (← (next k)) (e (suc k))))
+      rw (
+        e 0,
+        z,
+        u16-read s q p (y .0),
+        clause-read (take start s) arities few front p c (lim .0) o 0,
+        clause-is (take start s) arities few front p c (lim .0) o,
+        records-are cs (p + length (clauseBytes c)) (q + 2) (λ k. f (suc k)) (lim .1) (x .1) (rw (u16-length p) at (y .1)) (λ k. rw (← (next k)) (e (suc k))),
+      )
 
 -- ---- the trailer
 
@@ -162,7 +171,7 @@ fields s t b lim h =
     let w = stands-split s (t + 10) (u16Bytes (length (b .clauses))) last (stands-at s _ (omega (arith, u16-length (indexStart b))) (z .1)) in
     let l : Stands s (t + 12) last = stands-at s last (omega (arith, u16-length (length (b .clauses)))) (w .1) in
     let byte : (i : ℕ) → i < 4 → getD s (t + (12 + i)) 0 ≡ getD last i 0 =
-        λ i k. let e : t + (12 + i) ≡ t + 12 + i = omega arith in rw e (stands-get s (t + 12) last i l k) in
+    λ i k. let e : t + (12 + i) ≡ t + 12 + i = omega arith in rw e (stands-get s (t + 12) last i l k) in
     record {
       lo = i32-read s t (b .lo) (lim .lo) (x .0);
       hi = i32-read s (t + 4) (b .hi) (lim .hi) (y .0);
@@ -182,11 +191,26 @@ module _ (s : List ℕ) (b : meant.Book) (lim : Limits b) (small : length s ≤ 
   trailer-read =
       let f : Trailer s (trailerStart b) b = fields s (trailerStart b) b lim (h .trailer) in
       let t : length s - 16 ≡ trailerStart b = omega (arith, h .size) in
-      rw (le-ltb (length s) 16 (omega (arith, h .size)), le-ltb 60000 (length s) small, t,
-      f .lo, f .hi, f .start, f .count, f .relations, f .query, f .one, f .nil,
-      ltZ-not (b .lo) (b .hi) (lim .window), le-ltb (length (b .arities)) 1 (lim .some), le-ltb 16 (length (b .arities)) (lim .few),
-      le-ltb (indexStart b) (length (b .arities)) (omega (arith, h .end)), le-ltb 64 (length (b .clauses)) (lim .short), lt-ltb (b .query) (length (b .arities)) (lim .query),
-      eq-eqb (trailerStart b + 16) (length s) (h .size))
+      rw (
+        le-ltb (length s) 16 (omega (arith, h .size)),
+        le-ltb 60000 (length s) small,
+        t,
+        f .lo,
+        f .hi,
+        f .start,
+        f .count,
+        f .relations,
+        f .query,
+        f .one,
+        f .nil,
+        ltZ-not (b .lo) (b .hi) (lim .window),
+        le-ltb (length (b .arities)) 1 (lim .some),
+        le-ltb 16 (length (b .arities)) (lim .few),
+        le-ltb (indexStart b) (length (b .arities)) (omega (arith, h .end)),
+        le-ltb 64 (length (b .clauses)) (lim .short),
+        lt-ltb (b .query) (length (b .arities)) (lim .query),
+        eq-eqb (trailerStart b + 16) (length s) (h .size),
+      )
 
   front : Stands (take (indexStart b) s) 0 (b .arities)
   front = stands-front s (indexStart b) 0 (b .arities) (omega (arith, h .end)) .1 (h .arities)
@@ -198,15 +222,21 @@ module _ (s : List ℕ) (b : meant.Book) (lim : Limits b) (small : length s ≤ 
   unfolding read readingThen stepThen headerOf
   read-holds =
       let q : getD (take (indexStart b) s) (b .query) 0 ≡ 0 =
-          rw zero-add at (stands-get (take (indexStart b) s) 0 (b .arities) (b .query) front (lim .query)) ∙ lim .nullary in
-      rw (trailer-read, arities-read (take (indexStart b) s) (b .query) q 0 0 (b .arities) (lim .arities) front, zero-add (length (b .arities)),
-      records-read s (b .arities) (indexStart b) (lim .few) front (b .clauses) (length (b .arities)) (indexStart b) 0 (lim .clauses) records (h .index) (h .end) .1)
+      rw zero-add at (stands-get (take (indexStart b) s) 0 (b .arities) (b .query) front (lim .query)) ∙ lim .nullary in
+      rw (
+        trailer-read,
+        arities-read (take (indexStart b) s) (b .query) q 0 0 (b .arities) (lim .arities) front,
+        zero-add (length (b .arities)),
+        records-read s (b .arities) (indexStart b) (lim .few) front (b .clauses) (length (b .arities)) (indexStart b) 0 (lim .clauses) records (h .index) (h .end) .1,
+      )
 
   book-holds : bookIn s (headerOf b) ≡ b
   unfolding bookIn clauseNumber entryAt headerOf
-  book-holds = rw (stands-is s 0 (b .arities) (h .arities),
-      records-are s (b .arities) (indexStart b) (lim .few) front (b .clauses) (length (b .arities)) (indexStart b) (clauseNumber s (headerOf b)) (lim .clauses) records
-      (h .index) (λ k. refl))
+  book-holds = rw (
+    stands-is s 0 (b .arities) (h .arities),
+    records-are s (b .arities) (indexStart b) (lim .few) front (b .clauses) (length (b .arities)) (indexStart b) (clauseNumber s (headerOf b)) (lim .clauses) records
+        (h .index) (λ k. refl),
+  )
 
 pub read-encode : (b : meant.Book) → Limits b → length (encode b) ≤ 60000 → (read (encode b) ≡ Good (headerOf b)) × (bookIn (encode b) (headerOf b) ≡ b)
 read-encode b lim small = (read-holds (encode b) b lim small (holds b), book-holds (encode b) b lim small (holds b))
