@@ -2,92 +2,28 @@
 use Prim.Native.Nat.{ℕ, suc, _+_, _-_, _*_, _≤_, _<_}
 use native.Mathlib.Nat.{zero-add}
 use native.Mathlib.Omega.{arith}
-use mathlib.Core.Path.{_≡_, refl, sym, ap, _∙_}
-use mathlib.Core.Bool.{Bool, true, false}
+use mathlib.Core.Path.{_≡_, refl, ap, _∙_}
+use mathlib.Core.Bool.{false}
 use mathlib.Core.List.{List, [], _∷_, _++_}
 use lib.ListN.{length, getD, take, length-append}
-use lib.Dec.{eqb, leb→le}
+use lib.Dec.{leb→le}
 use lib.IntN.{ℤ, pos, negsuc}
 use lib.Signed.{ltZ, _≤ℤ_}
-use borrow.Author.Tests.{lt-ltb, le-ltb, le-leb, eq-eqb, eqb-true}
+use borrow.Author.Tests.{lt-ltb, le-ltb, eq-eqb}
 use Rattle.whole.specs.Bytes.{u16At, i32At, u16Bytes, i32Bytes}
 use Rattle.meaning.specs.Book as meant
-use Rattle.meaning.specs.Limits.{Each, nodes, ClauseLimits, Limits}
-use Rattle.cursor.specs.declared.Cursor.{Cursor}
-use Rattle.cursor.specs.declared.Step.the-variants.{Moved}
-use Rattle.cursor.specs.Steps.{pick, valueThen, byteThen, stepThen}
-use Rattle.cursor.specs.Clause.{clauseThen, clauseAt}
-use Rattle.cursor.specs.Meaning.{clauseOr}
+use Rattle.meaning.specs.Limits.{Limits}
+use Rattle.cursor.specs.Steps.{pick, valueThen, stepThen}
 use Rattle.book.specs.declared.Header.{Header}
 use Rattle.book.specs.declared.Reading.the-variants.{Good}
-use Rattle.book.specs.Read.{sized, headed, trailer, readingThen, topArity, arityAt, aritiesAt, recordAt, clausesAt, read, entryAt}
-use Rattle.book.specs.Meaning.{upTo, clauseNumber, bookIn}
+use Rattle.book.specs.Read.{sized, headed, trailer, readingThen, read, entryAt}
+use Rattle.book.specs.Meaning.{clauseNumber, bookIn}
 use Rattle.book.specs.Answer.{accepted, told, answer}
 use Rattle.encode.specs.Encode.{spell, clauseBytes, starts, indexStart, trailerBytes, encode}
 use Rattle.encode.specs.Stands.{Stands, stands-at, stands-split, stands-front, stands-get, stands-is, stands-self}
 use Rattle.encode.specs.Digits.{u16-length, i32-length, u16-read, i32-read}
-use Rattle.encode.specs.Reads.{at, spell-length, byte-read}
-use Rattle.encode.specs.Records.{Parts, parts-stand, clause-read, clause-is}
-
--- ---- arities
-
-module _ (s : List ℕ) (q : ℕ) (nullary : getD s q 0 ≡ 0) where
-  top-arity : (i a : ℕ) → getD s i 0 ≡ a → a ≤ 8 → a ≤ topArity q i
-  unfolding topArity pick
-  top-arity i a h k = go (eqb i q) refl
-    where
-      go : (t : Bool) → eqb i q ≡ t → a ≤ pick t 0 8
-      go true e = let z : a ≡ 0 = sym h ∙ ap (λ (j : ℕ). getD s j 0) (eqb-true i q e) ∙ nullary in omega arith
-      go false e = k
-
-  arities-read : (i l : ℕ) (ns : List ℕ) → Each (λ (n : ℕ). n ≤ 8) ns → Stands s i ns → aritiesAt (length ns) s q (at i l) ≡ Moved (at (i + length ns) l)
-  unfolding Stands aritiesAt arityAt byteThen stepThen valueThen pick
-  arities-read i l [] f h = let e : i + 0 ≡ i = omega arith in rw e
-  arities-read i l (a ∷ ns) f h =
-      let e : i + suc (length ns) ≡ i + 1 + length ns = omega arith in
-      rw (byte-read s i l (h .0) (h .1), le-leb a (topArity q i) (top-arity i a (h .1) (f .0)), e) (arities-read (i + 1) l ns (f .1) (h .2))
-
--- ---- records and index: cs stand at p in the front of s, and their index at q
-
-module _ (s arities : List ℕ) (start : ℕ) (few : length arities ≤ 16) (front : Stands (take start s) 0 arities) where
-  records-read : (cs : List meant.Clause) (p q l : ℕ) → Each (ClauseLimits arities) cs → Stands (take start s) p (spell clauseBytes cs) →
-      Stands s q (spell u16Bytes (starts p cs)) → p + length (spell clauseBytes cs) ≡ start →
-      (c : Cursor) × (clausesAt (length cs) s start (length arities) q (at p l) ≡ Moved c)
-  unfolding spell starts clausesAt recordAt pick clauseThen stepThen
-  records-read [] p q l f h i e = (at p l, rw (eq-eqb p start (omega arith)))
-  records-read (c ∷ cs) p q l f h i e =
-      let x = stands-split (take start s) p (clauseBytes c) (spell clauseBytes cs) h in
-      let y = stands-split s q (u16Bytes p) (spell u16Bytes (starts (p + length (clauseBytes c)) cs)) i in
-      let r = records-read cs (p + length (clauseBytes c)) (q + 2) (64 - nodes (c .rule)) (f .1) (x .1) (rw (u16-length p) at (y .1))
-      (omega (arith, length-append (clauseBytes c) (spell clauseBytes cs))) in (
-        r .0,
-        rw (
-          eq-eqb p (u16At s q) (sym (u16-read s q p (y .0))),
-          clause-read (take start s) arities few front p c (f .0) (parts-stand (take start s) p c (x .0)) l,
-        )
-            (r .1),
-      )
-
-  -- f k is what stands where entry k says
-  records-are : (cs : List meant.Clause) (p q : ℕ) (f : ℕ → meant.Clause) → Each (ClauseLimits arities) cs → Stands (take start s) p (spell clauseBytes cs) →
-      Stands s q (spell u16Bytes (starts p cs)) →
-      ((k : ℕ) → f k ≡ clauseOr (take start s) (clauseAt (take start s) (length arities) (at (u16At s (q + k * 2)) 0))) → upTo (length cs) f ≡ cs
-  unfolding spell starts upTo clauseOr
-  records-are [] p q f lim h i e = refl
-  records-are (c ∷ cs) p q f lim h i e =
-      let x = stands-split (take start s) p (clauseBytes c) (spell clauseBytes cs) h in
-      let y = stands-split s q (u16Bytes p) (spell u16Bytes (starts (p + length (clauseBytes c)) cs)) i in
-      let o : Parts (take start s) p c = parts-stand (take start s) p c (x .0) in
-      let z : q + 0 * 2 ≡ q = omega arith in
-      let next : (k : ℕ) → q + suc k * 2 ≡ q + 2 + k * 2 = λ k. omega arith in
-      rw (
-        e 0,
-        z,
-        u16-read s q p (y .0),
-        clause-read (take start s) arities few front p c (lim .0) o 0,
-        clause-is (take start s) arities few front p c (lim .0) o,
-        records-are cs (p + length (clauseBytes c)) (q + 2) (λ k. f (suc k)) (lim .1) (x .1) (rw (u16-length p) at (y .1)) (λ k. rw (← (next k)) (e (suc k))),
-      )
+use Rattle.encode.specs.Reads.{spell-length}
+use Rattle.encode.specs.Index.{arities-read, Rows, rows-stand, records-read, records-are}
 
 -- ---- the trailer
 
@@ -215,28 +151,24 @@ module _ (s : List ℕ) (b : meant.Book) (lim : Limits b) (small : length s ≤ 
   front : Stands (take (indexStart b) s) 0 (b .arities)
   front = stands-front s (indexStart b) 0 (b .arities) (omega (arith, h .end)) .1 (h .arities)
 
-  records : Stands (take (indexStart b) s) (length (b .arities)) (spell clauseBytes (b .clauses))
-  records = stands-front s (indexStart b) (length (b .arities)) (spell clauseBytes (b .clauses)) (omega (arith, h .end)) .1 (h .records)
+  rows : Rows (take (indexStart b) s) s (length (b .arities)) (indexStart b) (b .clauses)
+  rows = rows-stand (take (indexStart b) s) s (length (b .arities)) (indexStart b) (b .clauses)
+      (stands-front s (indexStart b) (length (b .arities)) (spell clauseBytes (b .clauses)) (omega (arith, h .end)) .1 (h .records))
+      (h .index)
 
   read-holds : read s ≡ Good (headerOf b)
   unfolding read readingThen stepThen headerOf
   read-holds =
       let q : getD (take (indexStart b) s) (b .query) 0 ≡ 0 =
       rw zero-add at (stands-get (take (indexStart b) s) 0 (b .arities) (b .query) front (lim .query)) ∙ lim .nullary in
-      rw (
-        trailer-read,
-        arities-read (take (indexStart b) s) (b .query) q 0 0 (b .arities) (lim .arities) front,
-        zero-add (length (b .arities)),
-        records-read s (b .arities) (indexStart b) (lim .few) front (b .clauses) (length (b .arities)) (indexStart b) 0 (lim .clauses) records (h .index) (h .end) .1,
-      )
+      let r = records-read s (b .arities) (indexStart b) (lim .few) front (length (b .arities)) (indexStart b) 0 (b .clauses) (lim .clauses) rows (h .end) in
+      rw (trailer-read, arities-read (take (indexStart b) s) (b .query) q 0 0 (b .arities) (lim .arities) front, zero-add (length (b .arities)), r .1)
 
   book-holds : bookIn s (headerOf b) ≡ b
   unfolding bookIn clauseNumber entryAt headerOf
-  book-holds = rw (
-    stands-is s 0 (b .arities) (h .arities),
-    records-are s (b .arities) (indexStart b) (lim .few) front (b .clauses) (length (b .arities)) (indexStart b) (clauseNumber s (headerOf b)) (lim .clauses) records
-        (h .index) (λ k. refl),
-  )
+  book-holds =
+      let r = records-are s (b .arities) (indexStart b) (lim .few) front (length (b .arities)) (indexStart b) (b .clauses) (clauseNumber s (headerOf b)) (lim .clauses) rows (λ k. refl) in
+      rw (stands-is s 0 (b .arities) (h .arities), r)
 
 pub read-encode : (b : meant.Book) → Limits b → length (encode b) ≤ 60000 → (read (encode b) ≡ Good (headerOf b)) × (bookIn (encode b) (headerOf b) ≡ b)
 read-encode b lim small = (read-holds (encode b) b lim small (holds b), book-holds (encode b) b lim small (holds b))
