@@ -1,5 +1,5 @@
 -- Each reading step on what stands at its cursor: it gets what was written, and moves past it.
-use Prim.Native.Nat.{ℕ, zero, suc, _+_, _-_, _*_, _≤_, _<_, max}
+use Prim.Native.Nat.{ℕ, suc, _+_, _-_, _*_, _≤_, _<_}
 use native.Mathlib.Omega.{arith}
 use mathlib.Core.Path.{_≡_, refl, sym, ap, _∙_}
 use mathlib.Core.List.{List, [], _∷_, _++_}
@@ -19,9 +19,9 @@ use Rattle.cursor.specs.declared.Node.the-variants as node-kinds
 use Rattle.cursor.specs.declared.NodeStep.the-variants as node-steps
 use Rattle.cursor.specs.Steps.{pick, byteThen, numberThen, stepThen, nodeThen, byteAt, belowAt, skipAt, numberAt, kindAt, sumAt, remainsAt, kinds, nodeAt}
 use Rattle.cursor.specs.Walk.{constraintAt}
-use Rattle.cursor.specs.Tree.{Got, got, no, then, moved, coefficientsAt, sumOf, grow, treeAt, tree-read}
+use Rattle.cursor.specs.Tree.{Got, got, then, moved, coefficientsAt, sumOf, grow, treeAt, tree-read}
 use Rattle.encode.specs.Encode.{spell, sumBytes, constraintBytes}
-use Rattle.encode.specs.Stands.{Stands, stands-at, stands-room, stands-split}
+use Rattle.encode.specs.Stands.{Stands, stands-room, stands-split}
 use Rattle.encode.specs.Digits.{u16-length, i16-length, i32-length, u16-read, i16-read, i32-read}
 
 abbrev pub at : ℕ → ℕ → Cursor
