@@ -93,13 +93,13 @@ read s =
 unfoldable pub entryAt : List ℕ → ℕ → ℕ → Cursor
 entryAt s start k = record { at = u16At s (start + k * 2); left = 0 }
 
--- the constraint of clause k, as a part of the book; nothing for a refused book or an absent clause
+-- the constraint of the record at c, as a part of the book
+unfoldable pub partAt : List ℕ → ℕ → ℕ → Cursor → List ℕ
+partAt s start n c = clauseThen (clauseAt (take start s) n c) (λ l past. take (past .at - l .rule) (drop (l .rule) s)) (λ _. [])
+
+-- the constraint of clause k; nothing for a refused book or an absent clause
 unfoldable pub constraintOf : List ℕ → ℕ → List ℕ
 constraintOf s k =
     readingThen (read s)
-    (λ h. pick (ltb k (h .count))
-    (clauseThen (clauseAt (take (h .start) s) (h .relations) (entryAt s (h .start) k))
-    (λ l past. take (past .at - l .rule) (drop (l .rule) s))
-    (λ _. []))
-    [])
+    (λ h. pick (ltb k (h .count)) (valueThen (entryAt s (h .start) k) λ c. partAt s (h .start) (h .relations) c) [])
     (λ _. [])

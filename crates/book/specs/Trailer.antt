@@ -46,17 +46,20 @@ kept-by {h} {g} e =
     pick-else _ _ _ (no-reading _) e (λ w e. pick-else _ _ _ (no-reading _) e (λ a e. pick-else _ _ _ (no-reading _) e
     (λ b e. pick-else _ _ _ (no-reading _) e (λ c e. pick-else _ _ _ (no-reading _) e (λ d e. pick-then _ _ _ (no-reading _) e
     (λ f e. pick-then _ _ _ (no-reading _) e (λ i e. pick-then _ _ _ (no-reading _) e (λ j e. pick-then _ _ _ (no-reading _) e
-    (λ k e. (let same : h ≡ g = cc in same, record {
-      window = ltZ-no (let t : T (not (ltZ (h .hi) (h .lo))) = rw w tt in t);
-      some = ltb-false _ _ a;
-      few = ltb-false _ _ b;
-      room = ltb-false _ _ c;
-      count = ltb-false _ _ d;
-      query = ltb-true _ _ f;
-      ones = eqb-true _ _ i;
-      nils = eqb-true _ _ j;
-      all = eqb-true _ _ k;
-    }))))))))))
+    (λ k e. (
+      let same : h ≡ g = cc in same,
+      record {
+        window = ltZ-no (let t : T (not (ltZ (h .hi) (h .lo))) = rw w tt in t);
+        some = ltb-false _ _ a;
+        few = ltb-false _ _ b;
+        room = ltb-false _ _ c;
+        count = ltb-false _ _ d;
+        query = ltb-true _ _ f;
+        ones = eqb-true _ _ i;
+        nils = eqb-true _ _ j;
+        all = eqb-true _ _ k;
+      },
+    ))))))))))
 
 trailed-same : {s : List ℕ} {h g : Header} → h ≡ g → Trailed s h → Trailed s g
 trailed-same e w = rw e at w

@@ -2,7 +2,7 @@
 ghost use mathlib.Core.Path.{_≡_};
 ghost use Prim.Native.Nat.{_+_, _*_, _≤_, _<_};
 ghost use lib.ListN.{length};
-ghost use Rattle.book.specs.Read.{topArity, arityAt, aritiesAt, recordAt, clausesAt, headed, sized, trailer, read, entryAt, constraintOf};
+ghost use Rattle.book.specs.Read.{topArity, arityAt, aritiesAt, recordAt, clausesAt, headed, sized, trailer, read, entryAt, partAt, constraintOf};
 ghost use Rattle.whole.specs.Bytes.{u16At, i32At};
 ghost use Rattle.book.specs.Answer.{Answers};
 ghost use Rattle.book.specs.Joined.{Held};
@@ -265,6 +265,22 @@ fn entry(book: &[u8], start: usize, k: usize) -> cursor::Cursor
     }
 }
 
+// the constraint of the record at c, as the very part of the book that holds it
+fn part_at(book: &[u8], c: cursor::Cursor, start: usize, n: u8) -> &[u8]
+    requires { ⌜ n ≤ start ⌝ }
+    requires { ⌜ start ≤ length (now book) ⌝ }
+    ensures { λ r. ⌜ now r ≡ partAt (now (book .entry)) start n c ⌝ }
+{
+    match c.clause(&book[..start], n) {
+        cursor::ClauseStep::Refused(_) => &book[..0],
+        cursor::ClauseStep::Got(l, past) => {
+            let a = l.rule;
+            let b = past.at;
+            &book[a..b]
+        }
+    }
+}
+
 // The constraint of clause k, as the very part of the book that holds it; an empty part for a refused book or an absent clause.
 pub fn constraint_of(book: &[u8], k: usize) -> &[u8]
     ensures { λ r. ⌜ now r ≡ constraintOf (now (book .entry)) k ⌝ }
@@ -274,14 +290,7 @@ pub fn constraint_of(book: &[u8], k: usize) -> &[u8]
     };
     let start = h.start;
     if k < h.count {
-        match entry(book, start, k).clause(&book[..start], h.relations) {
-            cursor::ClauseStep::Refused(_) => &book[..0],
-            cursor::ClauseStep::Got(l, past) => {
-                let a = l.rule;
-                let b = past.at;
-                &book[a..b]
-            }
-        }
+        part_at(book, entry(book, start, k), start, h.relations)
     } else {
         &book[..0]
     }

@@ -4,18 +4,6 @@ use Rattle.book.proofs.Laws.{ways}
 use Rattle.book.proofs.arity.Statement.{statement}
 use Rattle.book.proofs.arity.Tie as tie
 
-byte-requires : tie.Need-byte-requires
-byte-requires c κs = search needs
-
-enum-known-r : tie.Need-enum-known-r
-enum-known-r c = search needs
-
-enum-known-a : tie.Need-enum-known-a
-enum-known-a c = search needs
-
-most-requires : tie.Need-most-requires
-most-requires c κs = search needs
-
 returns : tie.Need-returns
 unfolding arityAt
 returns c = search ways depth 14
@@ -31,4 +19,4 @@ returns-3 c = search ways depth 14
 pub arity-spec : {M : Type 1} → statement M
 arity-spec =
     tie.close
-    (tie.spec byte-requires enum-known-r enum-known-a most-requires returns returns-2 returns-3)
+    (tie.spec (λ c κs. search needs) (λ c. search needs) (λ c. search needs) (λ c κs. search needs) returns returns-2 returns-3)

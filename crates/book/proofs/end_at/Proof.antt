@@ -3,9 +3,6 @@ use Rattle.whole.specs.Whole.{narrow-fits, narrow-is}
 use Rattle.book.proofs.end_at.Statement.{statement}
 use Rattle.book.proofs.end_at.Tie as tie
 
-i32-at-requires : tie.Need-i32-at-requires
-i32-at-requires c κs = search needs
-
 cast-result : tie.Need-cast-result
 cast-result c = narrow-fits (c .i32-at .ok) (c .i32-at .ensures)
 
@@ -13,4 +10,4 @@ returns : tie.Need-returns
 returns c = narrow-is (c .i32-at .ok) (c .i32-at .ensures)
 
 pub end-at-spec : {M : Type 1} → statement M
-end-at-spec = tie.close (tie.spec i32-at-requires cast-result returns)
+end-at-spec = tie.close (tie.spec (λ c κs. search needs) cast-result returns)

@@ -1,38 +1,27 @@
 use borrow.Author.Needs.{needs}
+use Rattle.book.specs.Joined.{holding}
+use Rattle.book.specs.Trailer.{Trailed, read-trailed}
+use Rattle.book.proofs.Good.{good-front, good-holds, good-entry}
 use Rattle.book.proofs.record.Statement.{statement}
 use Rattle.book.proofs.record.Tie as tie
-use Rattle.book.proofs.record.Reads as reads
-use Rattle.book.proofs.record.Lts as lts
-use Rattle.book.proofs.entry.Reads as entry-reads
-use Rattle.cursor.proofs.Cursor.parts.Reads as parts-reads
 
--- src/lib.rt:297:41
+known : (c : tie.Start) → Trailed (c .args .book .now) (c .args .h)
+known c = read-trailed _ _ (c .pre .0)
+
 entry-requires : tie.Need-entry-requires
-entry-requires c κs = search needs
+entry-requires c κs = good-entry _ _ (known (c .before)) _ (c .before .pre .1)
 
--- src/lib.rt:297:69
 slice-aggregate-parts : tie.Need-slice-aggregate-parts
-slice-aggregate-parts c = search needs
+slice-aggregate-parts c = good-front _ _ (known (c .before .before .before))
 
--- src/lib.rt:297:41
 parts-requires : tie.Need-parts-requires
-parts-requires c κs = search needs
+parts-requires c κs = good-holds _ _ (known (c .before .before .before))
 
--- src/lib.rt:297:33
-enum-known-l : tie.Need-enum-known-l
-enum-known-l c = search needs
-
--- src/lib.rt:299:9
-enum-told : tie.Need-enum-told
-enum-told c = search needs
-
--- src/lib.rt:299:9
 returns : tie.Need-returns
-returns c = ?
+returns c = search holding
 
--- src/lib.rt:291:1
 returns-2 : tie.Need-returns-2
-returns-2 c = ?
+returns-2 c = search holding
 
 pub record-spec : {M : Type 1} → statement M
 record-spec =
@@ -41,7 +30,7 @@ record-spec =
     entry-requires
     slice-aggregate-parts
     parts-requires
-    enum-known-l
-    enum-told
+    (λ c. search needs)
+    (λ c. search needs)
     returns
     returns-2)

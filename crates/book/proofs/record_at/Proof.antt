@@ -4,20 +4,11 @@ use Rattle.book.proofs.Laws.{ways, fronts}
 use Rattle.book.proofs.record_at.Statement.{statement}
 use Rattle.book.proofs.record_at.Tie as tie
 
-short-at-requires : tie.Need-short-at-requires
-short-at-requires c κs = search needs
-
 slice-aggregate-clause : tie.Need-slice-aggregate-clause
 slice-aggregate-clause c = search fronts
 
 clause-requires : tie.Need-clause-requires
 clause-requires c κs = search fronts
-
-enum-known-r : tie.Need-enum-known-r
-enum-known-r c = search needs
-
-enum-known-next : tie.Need-enum-known-next
-enum-known-next c = search needs
 
 returns : tie.Need-returns
 unfolding recordAt
@@ -35,11 +26,11 @@ pub record-at-spec : {M : Type 1} → statement M
 record-at-spec =
     tie.close
     (tie.spec
-    short-at-requires
+    (λ c κs. search needs)
     slice-aggregate-clause
     clause-requires
-    enum-known-r
-    enum-known-next
+    (λ c. search needs)
+    (λ c. search needs)
     returns
     returns-2
     returns-3)

@@ -4,9 +4,6 @@ use Rattle.book.proofs.Laws.{ways}
 use Rattle.book.proofs.Header.measured.Statement.{statement}
 use Rattle.book.proofs.Header.measured.Tie as tie
 
-sub-if3 : tie.Need-sub-if3
-sub-if3 c = search needs
-
 returns : tie.Need-returns
 unfolding sized
 returns c = search ways depth 14
@@ -15,9 +12,6 @@ returns-2 : tie.Need-returns-2
 unfolding sized
 returns-2 c = search ways depth 14
 
-cast-if3 : tie.Need-cast-if3
-cast-if3 c = search needs
-
 returns-3 : tie.Need-returns-3
 unfolding sized
 returns-3 c = search ways depth 14
@@ -25,15 +19,6 @@ returns-3 c = search ways depth 14
 returns-4 : tie.Need-returns-4
 unfolding sized
 returns-4 c = search ways depth 14
-
-mul-if8 : tie.Need-mul-if8
-mul-if8 c = search needs
-
-add-if8 : tie.Need-add-if8
-add-if8 c = search needs
-
-add-if8-2 : tie.Need-add-if8-2
-add-if8-2 c = search needs
 
 returns-5 : tie.Need-returns-5
 unfolding sized
@@ -59,15 +44,15 @@ pub measured-spec : {M : Type 1} → statement M
 measured-spec =
     tie.close
     (tie.spec
-    sub-if3
+    (λ c. search needs)
     returns
     returns-2
-    cast-if3
+    (λ c. search needs)
     returns-3
     returns-4
-    mul-if8
-    add-if8
-    add-if8-2
+    (λ c. search needs)
+    (λ c. search needs)
+    (λ c. search needs)
     returns-5
     returns-6
     returns-7
