@@ -66,7 +66,7 @@ module _ (s arities : List ℕ) (start : ℕ) (few : length arities ≤ 16) (fro
   records-read p q l (c ∷ cs) lim h e =
       let whole = length-append (clauseBytes c) (spell clauseBytes cs) in
       let r = records-read (p + length (clauseBytes c)) (q + 2) (64 - nodes (c .rule)) cs (lim .1) (h .2) (omega arith) in
-      (r .0, rw (eq-eqb p (u16At s q) (sym (h .1)), clause-read (take start s) arities few front p c (lim .0) (h .0) l) (r .1))
+      (r .0, rw (eq-eqb p (u16At s q) (sym (h .1)), clause-read (take start s) arities few front p c (lim .0) (h .0) 0) (r .1))
 
   -- f k is what stands where entry k says
   pub records-are : (p q : ℕ) (cs : List meant.Clause) (f : ℕ → meant.Clause) → Each (ClauseLimits arities) cs → Rows (take start s) s p q cs →
