@@ -1,0 +1,5 @@
+pub mod Answer
+pub mod Compare
+pub mod Instance
+pub mod Derivation
+pub mod Trace
