@@ -1,0 +1,2 @@
+pub mod BookB
+pub mod Table
