@@ -1,5 +1,5 @@
 -- Each reading step on what stands at its cursor: it gets what was written, and moves past it.
-use Prim.Native.Nat.{ℕ, zero, suc, _+_, _-_, _*_, _≤_, _<_, max}
+use Prim.Native.Nat.{ℕ, suc, _+_, _-_, _*_, _≤_, _<_}
 use native.Mathlib.Omega.{arith}
 use mathlib.Core.Path.{_≡_, refl, sym, ap, _∙_}
 use mathlib.Core.List.{List, [], _∷_, _++_}
@@ -19,9 +19,9 @@ use Rattle.cursor.specs.declared.Node.the-variants as node-kinds
 use Rattle.cursor.specs.declared.NodeStep.the-variants as node-steps
 use Rattle.cursor.specs.Steps.{pick, byteThen, numberThen, stepThen, nodeThen, byteAt, belowAt, skipAt, numberAt, kindAt, sumAt, remainsAt, kinds, nodeAt}
 use Rattle.cursor.specs.Walk.{constraintAt}
-use Rattle.cursor.specs.Tree.{Got, got, no, then, moved, coefficientsAt, sumOf, grow, treeAt, tree-read}
+use Rattle.cursor.specs.Tree.{Got, got, then, moved, coefficientsAt, sumOf, grow, treeAt, tree-read}
 use Rattle.encode.specs.Encode.{spell, sumBytes, constraintBytes}
-use Rattle.encode.specs.Stands.{Stands, stands-at, stands-room, stands-split}
+use Rattle.encode.specs.Stands.{Stands, stands-room, stands-split}
 use Rattle.encode.specs.Digits.{u16-length, i16-length, i32-length, u16-read, i16-read, i32-read}
 
 abbrev pub at : ℕ → ℕ → Cursor
@@ -112,10 +112,13 @@ module _ (s : List ℕ) (v : ℕ) where
   remains-read p l m d r lim div h =
       let a = stands-split s p (sumBytes m) (u16Bytes d ++ u16Bytes r) h in
       let b = stands-split s (p + (v * 2 + 4)) (u16Bytes d) (u16Bytes r) (rw (sum-length m lim) at (a .1)) in
-      rw (sum-moves s p v l m lim (a .0), number-read s (p + (v * 2 + 4)) l d (b .0),
-      ne-eqb d 0 (λ e. omega (arith, div .some)),
-      number-read s (p + (v * 2 + 4) + 2) l r (rw (u16-length d) at (b .1)),
-      lt-ltb r d (div .less))
+      rw (
+        sum-moves s p v l m lim (a .0),
+        number-read s (p + (v * 2 + 4)) l d (b .0),
+        ne-eqb d 0 (λ e. omega (arith, div .some)),
+        number-read s (p + (v * 2 + 4) + 2) l r (rw (u16-length d) at (b .1)),
+        lt-ltb r d (div .less),
+      )
 
   pub tree-got : (t : Constraint) (d : ℕ) → depth t ≤ d → Numbers v t → Gets s (treeAt s v d) t
   unfolding Stands constraintBytes depth nodes Numbers treeAt nodeAt byteThen stepThen nodeThen kinds pick grow then
@@ -133,8 +136,12 @@ module _ (s : List ℕ) (v : ℕ) where
       rw (up d hd, e, kind-read s p l (h .0) (h .1), sum-moves s (p + 1) v l m n (h .2), sum-is s (p + 1) v m n (h .2), f)
   tree-got (not t) d hd n p left l q hl hq h =
       let e : left ≡ suc (nodes t + l) = omega arith in
-      rw (up d (omega arith), e, kind-read s p (nodes t + l) (h .0) (h .1),
-      tree-got t (d - 1) (omega arith) n (p + 1) (nodes t + l) l q refl (omega arith) (h .2))
+      rw (
+        up d (omega arith),
+        e,
+        kind-read s p (nodes t + l) (h .0) (h .1),
+        tree-got t (d - 1) (omega arith) n (p + 1) (nodes t + l) l q refl (omega arith) (h .2),
+      )
   tree-got (and t u) d hd n p left l q hl hq h =
       let e : left ≡ suc (nodes t + (nodes u + l)) = omega arith in
       rw (up d (omega arith), e, kind-read s p (nodes t + (nodes u + l)) (h .0) (h .1))
@@ -147,7 +154,7 @@ module _ (s : List ℕ) (v : ℕ) where
       let e : left ≡ suc l = omega arith in
       let r = stands-split s (p + 1) (sumBytes m) (u16Bytes a ++ u16Bytes b) (h .2) in
       let f : p + 1 + (v * 2 + 4) + 2 + 2 ≡ q =
-          omega (arith, sum-length m (n .0), length-append (sumBytes m) (u16Bytes a ++ u16Bytes b), length-append (u16Bytes a) (u16Bytes b), u16-length a, u16-length b) in
+      omega (arith, sum-length m (n .0), length-append (sumBytes m) (u16Bytes a ++ u16Bytes b), length-append (u16Bytes a) (u16Bytes b), u16-length a, u16-length b) in
       rw (up d hd, e, kind-read s p l (h .0) (h .1), remains-read (p + 1) l m a b (n .0) (n .1) (h .2), sum-is s (p + 1) v m (n .0) (r .0), f)
 
   pub constraint-read : (t : Constraint) (d : ℕ) → depth t ≤ d → Numbers v t → (p left l : ℕ) → left ≡ nodes t + l → Stands s p (constraintBytes t) →
