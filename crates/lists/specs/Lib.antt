@@ -3,3 +3,4 @@ pub mod Compare
 pub mod Instance
 pub mod Derivation
 pub mod Trace
+pub mod Due
