@@ -4,3 +4,5 @@ pub mod Instance
 pub mod Derivation
 pub mod Trace
 pub mod Due
+pub mod Laws
+pub mod Exact
