@@ -6,3 +6,5 @@ pub mod Trace
 pub mod Due
 pub mod Laws
 pub mod Exact
+pub mod Walk
+pub mod Numbers
