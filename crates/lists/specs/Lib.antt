@@ -4,3 +4,8 @@ pub mod Instance
 pub mod Derivation
 pub mod Trace
 pub mod Convert
+pub mod Due
+pub mod Laws
+pub mod Exact
+pub mod Walk
+pub mod Numbers
