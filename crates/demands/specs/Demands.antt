@@ -18,11 +18,14 @@ use Rattle.meaning.specs.Laws.{laws, flags-laws}
 use Rattle.meaning.specs.Conversions.{moves-length}
 use Rattle.meaning.specs.Main as main
 use Rattle.meaning.specs.Stated as stated
+use Rattle.cursor.specs.declared.Clause.{Clause}
 use Rattle.book.specs.declared.Header.{Header}
 use Rattle.book.specs.declared.Reading.{Reading}
 use Rattle.book.specs.declared.Reading.the-variants.{Good}
 use Rattle.book.specs.Read.{read, constraintOf}
 use Rattle.book.specs.Meaning.{bookIn}
+use Rattle.book.specs.Joined as joined
+use Rattle.book.specs.Joined.{Held}
 use Rattle.book.specs.Answer.{accepted, answer, Answers}
 use Rattle.encode.specs.Encode.{encode, constraintBytes}
 use Rattle.encode.specs.Stands.{Bytes}
@@ -35,6 +38,10 @@ use Rattle.encode.specs.Small.{encode-bytes}
 -- no second reply of `book::read_book` satisfies its promise
 pub one-reading : (s : List ℕ) (r q : Reading) → Answers s r → Answers s q → r ≡ q
 one-reading s r q h k = h .is ∙ sym (k .is)
+
+-- nor does a second record of `book::record`, or a second part of `book::constraint_of` (whose promise is an equation)
+pub one-record : (s : List ℕ) (h : Header) (k : ℕ) (l m : Clause) → Held s h k l → Held s h k m → l ≡ m
+one-record = joined.one-record
 
 -- ---- Demand 2: a book is accepted exactly when it is document 01's writing of a book within the limits
 
