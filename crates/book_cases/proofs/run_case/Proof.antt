@@ -1,8 +1,8 @@
 -- `run_case` is safe and ends: the case fits the room, so its front can be lent.
 use Rattle.book.proofs.Laws.{fronts}
 use borrow.Author.Needs.{needs}
-use Rattle.cases.proofs.run_case.Statement.{statement}
-use Rattle.cases.proofs.run_case.Tie as tie
+use Rattle.book_cases.proofs.run_case.Statement.{statement}
+use Rattle.book_cases.proofs.run_case.Tie as tie
 
 slice-aggregate-fill-and-print : tie.Need-slice-aggregate-fill-and-print
 slice-aggregate-fill-and-print c = search fronts

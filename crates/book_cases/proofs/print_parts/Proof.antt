@@ -1,8 +1,8 @@
 -- `print_parts` is safe and ends. Nothing has to hold from turn to turn; the measure is the clauses left.
 use Prim.Native.Nat.{_-_}
 use borrow.Author.Needs.{needs}
-use Rattle.cases.proofs.print_parts.Statement.{statement}
-use Rattle.cases.proofs.print_parts.Tie as tie
+use Rattle.book_cases.proofs.print_parts.Statement.{statement}
+use Rattle.book_cases.proofs.print_parts.Tie as tie
 
 abbrev Inv-loop : tie.InvT-loop
 Inv-loop book last k₀ t4 k = Unit {0}

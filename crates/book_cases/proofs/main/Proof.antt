@@ -2,8 +2,8 @@
 use mathlib.Core.Path.{_≡_}
 use lib.ListN.{length}
 use borrow.Author.Needs.{needs}
-use Rattle.cases.proofs.main.Statement.{statement}
-use Rattle.cases.proofs.main.Tie as tie
+use Rattle.book_cases.proofs.main.Statement.{statement}
+use Rattle.book_cases.proofs.main.Tie as tie
 
 abbrev Inv-loop : tie.InvT-loop
 Inv-loop space₀ turns₀ space turns = 60001 ≡ length space
