@@ -26,11 +26,13 @@ use Rattle.book.specs.Read.{read}
 use Rattle.book.specs.Joined.{Held, record-read, held, count-is}
 use Rattle.facts.specs.Instance.{numberIn}
 use Rattle.steps.specs.Put.{Put, put-length, put-from}
+use Rattle.steps.specs.Walk.{Here, Walk}
+use Rattle.steps.proofs.Places.{start-add, start-far, start-long, walk-from, vars-of, head-of, head-small, body-small, here-at}
 use Rattle.back.specs.declared.Block.{Block}
 use Rattle.back.specs.declared.Wanted.{Wanted}
-use Rattle.back.specs.Walk.{Here, Walk, Trace, bodyCount, Filled, Marked}
+use Rattle.back.specs.Walk.{Trace, bodyCount, Filled, Marked}
 use Rattle.back.specs.Gone.{told, Wrote, Due, Stepped, Left, whole, Gone}
-use Rattle.back.proofs.Places.{start-add, start-far, start-long, walk-from, vars-of, head-of, body-of, head-small, body-small, here-at, trace-start, size-some}
+use Rattle.back.proofs.Places.{body-of, trace-start, size-some}
 
 -- ---- the relation that a number tells
 

@@ -6,9 +6,10 @@ ghost use Prim.Native.Nat.{ℕ, _+_, _*_, _<_, _≤_};
 ghost use lib.ListN.{length, getD, take, drop};
 ghost use Rattle.meaning.specs.State.{flags};
 ghost use Rattle.lists.specs.Convert.{asDerivation};
-ghost use Rattle.lists.specs.Places.{after as afterStep, start};
+ghost use Rattle.lists.specs.Places.{start};
 ghost use Rattle.book.specs.Meaning.{bookIn};
-ghost use Rattle.back.specs.Walk.{Here, Walk, Trace, bodyCount, Filled, Marked};
+ghost use Rattle.steps.specs.Walk.{Here, Walk};
+ghost use Rattle.back.specs.Walk.{Trace, bodyCount, Filled, Marked};
 ghost use Rattle.back.specs.Gone.{Wrote, Due, Stepped, Left, Gone};
 
 // How many starts a block found, and the place after them.
@@ -58,15 +59,6 @@ pub fn measure(book: &[u8], h: book::Header, list: &[i32], size: usize, relation
     counts[relation]
 }
 
-// the place after the step at i
-fn after(book: &[u8], h: book::Header, list: &[i32], size: usize, i: usize) -> usize
-    requires { ⌜ Here (now book) h (now list) size i ⌝ }
-    ensures { λ r. ⌜ r ≡ afterStep (bookIn (now (book .entry)) h) size (now (list .entry)) i ⌝ }
-{
-    let c = steps::clause_at(book, h, list, i);
-    i + 1 + wide(c.variables) + size
-}
-
 // the starts of up to 512 steps from `from` on
 fn fill(
     book: &[u8],
@@ -87,7 +79,7 @@ fn fill(
             return Block { count: n, next: i };
         }
         block[n] = i;
-        i = after(book, h, list, size, i);
+        i = steps::after(book, h, list, size, i);
         n += 1;
     }
     Block { count: n, next: i }

@@ -1,10 +1,11 @@
 -- Numbers written into lent room.
 use mathlib.Core.Path.{_≡_, sym, ap, _∙_}
-use mathlib.Core.List.{List, _++_, append-assoc}
-use Prim.Native.Nat.{ℕ, _+_, _≤_}
+use mathlib.Core.List.{List, [], _∷_, _++_, append-assoc}
+use Prim.Native.Nat.{ℕ, _+_, _≤_, _<_}
+use native.Mathlib.Numerals.{add-one}
 use native.Mathlib.Omega.{arith}
-use lib.ListN.{length, take, drop, length-append, length-drop}
-use lib.Seq.{length-take-le, take-at, drop-at, drop-drop}
+use lib.ListN.{length, set, take, drop, length-append, length-drop, take-append-drop}
+use lib.Seq.{length-take-le, take-at, drop-at, drop-drop, set-split}
 use lib.IntN.{ℤ}
 
 -- e is d with the numbers p from place `at` on, and every other number as it was
@@ -46,3 +47,24 @@ module _ {d e : List ℤ} {at : ℕ} {p : List ℤ} (w : Put d e at p) where
         room = rw length-append (omega (arith, w .room, u .room, put-length));
         is = u .is ∙ rw (put-upto, rest, append-assoc (take at d) p, append-assoc p q);
       }
+
+  -- one number more
+  pub put-more : (x : ℤ) → at + length p < length d → Put d (set e (at + length p) x) at (p ++ (x ∷ []))
+  put-more x h =
+      let n = at + length p in
+      put-join (record {
+        room = omega (arith, put-length);
+        is = set-split e n x (omega (arith, put-length)) ∙ ap (λ (k : ℕ). take n e ++ (x ∷ drop k e)) (sym (add-one n));
+      })
+
+-- nothing yet
+pub put-none : (d : List ℤ) (at : ℕ) → at ≤ length d → Put d d at []
+put-none d at h = let z : at + 0 ≡ at = omega arith in record { room = omega arith; is = rw z (sym (take-append-drop at d)) }
+
+-- the same list under another name
+pub put-as : {d e : List ℤ} {at : ℕ} {p q : List ℤ} → Put d e at p → p ≡ q → Put d e at q
+put-as w e = rw e at w
+
+-- one part after another, where the first is known to have n numbers
+pub put-then : {d e f : List ℤ} {at : ℕ} {p q : List ℤ} (n : ℕ) → length p ≡ n → Put d e at p → Put e f (at + n) q → Put d f at (p ++ q)
+put-then n h w u = put-join w (rw h u)

@@ -4,7 +4,7 @@ use mathlib.Core.Path.{_≡_, refl}
 use Prim.Native.Nat.{_+_, _-_, _*_, _≤_}
 use Rattle.book.specs.Meaning.{bookIn}
 use Rattle.back.specs.Gone.{Gone}
-use Rattle.back.proofs.Places.{walk-from}
+use Rattle.steps.proofs.Places.{walk-from}
 use Rattle.back.proofs.Laws.{block-place, block-start, back-asks, back-more, left-at, gone-at, gone-join}
 use Rattle.back.proofs.block_back.Statement.{statement}
 use Rattle.back.proofs.block_back.Tie as tie

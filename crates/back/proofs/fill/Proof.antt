@@ -1,11 +1,11 @@
 use borrow.Author.Needs.{needs}
 use native.Mathlib.Omega.{arith}
-use mathlib.Core.Path.{_≡_, sym, ap, _∙_}
+use mathlib.Core.Path.{_≡_, sym, _∙_}
 use Prim.Native.Nat.{ℕ, _-_, _≤_, _<_}
 use lib.ListN.{length, getD, length-set}
-use Rattle.lists.specs.Places.{after as afterStep, start, start-first, start-next}
+use Rattle.lists.specs.Places.{start, start-first, start-next}
 use Rattle.book.specs.Meaning.{bookIn}
-use Rattle.back.proofs.Places.{here-at}
+use Rattle.steps.proofs.Places.{here-at}
 use Rattle.back.proofs.Laws.{fill-more}
 use Rattle.back.proofs.fill.Statement.{statement}
 use Rattle.back.proofs.fill.Tie as tie

@@ -3,7 +3,7 @@ use native.Mathlib.Omega.{arith}
 use Prim.Native.Nat.{_-_}
 use lib.ListN.{length}
 use Rattle.book.specs.Meaning.{bookIn}
-use Rattle.back.proofs.Places.{vars-of, head-small, body-small}
+use Rattle.steps.proofs.Places.{vars-of, head-small, body-small}
 use Rattle.back.proofs.Laws.{Counted, counted-first, counted-here, counted-small, counted-more, counted-all}
 use Rattle.back.proofs.measure.Statement.{statement}
 use Rattle.back.proofs.measure.Tie as tie

@@ -1,8 +1,8 @@
 use borrow.Author.Needs.{needs}
 use native.Mathlib.Omega.{arith}
-use Rattle.back.proofs.Places.{vars-of}
-use Rattle.back.proofs.after.Statement.{statement}
-use Rattle.back.proofs.after.Tie as tie
+use Rattle.steps.proofs.Places.{vars-of}
+use Rattle.steps.proofs.after.Statement.{statement}
+use Rattle.steps.proofs.after.Tie as tie
 
 returns : tie.Need-returns
 returns c = omega (arith, vars-of _ _ _ _ (c .before .clause-at .ensures), c .wide .ensures)
