@@ -14,7 +14,7 @@ ghost use Rattle.lists.specs.Trace.{flat, sum, size as stateSize, stateNumbers,
 ghost use Rattle.book.specs.Read.{read};
 ghost use Rattle.book.specs.Meaning.{bookIn};
 ghost use Rattle.book.specs.declared.Reading.the-variants.{Good};
-ghost use Rattle.facts.specs.Place.{factIn, valuesIn, Fixed, Sits, Seated};
+ghost use Rattle.facts.specs.Place.{factIn, valuesIn, Fixed, Sits};
 ghost use Rattle.state.specs.State.{front, rowsOf, stateOf, factOf, Shape, Sized, Known};
 
 fn wide(x: u8) -> usize
@@ -33,8 +33,8 @@ fn flag_same(list: &[i32], i: usize, flag: bool) -> bool
     if flag { list[i] == 1 } else { list[i] == 0 }
 }
 
-// the first of n numbers from `at` on that is not its flag's, or the place after them
-fn flags_differ(list: &[i32], at: usize, flags: &[bool; 16], n: usize) -> usize
+// The first of n numbers from `at` on that is not its flag's, or the place after them.
+pub fn flags_differ(list: &[i32], at: usize, flags: &[bool; 16], n: usize) -> usize
     requires { ⌜ (n ≤ 16) × (at + n ≤ length (now list)) ⌝ }
     ensures { λ r. ⌜ r ≡ firstDiff at (drop at (now (list .entry))) (map bit (front false n (now (flags .entry)))) ⌝ }
 {
