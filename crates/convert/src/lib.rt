@@ -88,15 +88,15 @@ fn traced(book: &[u8], h: book::Header, list: &[i32], room: &mut [i32]) -> Conve
     ensures { λ r. ⌜ Replies (written (limited (asTrace (bookIn (now (book .entry)) h) state.flags (now (list .entry)))) (asTrace (bookIn (now (book .entry)) h) state.flags (now (list .entry))) (now (room .entry))) r (now (room .exit)) ⌝ }
 {
     let size = state::size(book, h);
-    let n = size + list.len() + forth::count(book, h, list) * size;
-    if 1000000 < n {
-        return refuse(20, n);
+    let all = size + list.len() + forth::count(book, h, list) * size;
+    if 1000000 < all {
+        return refuse(20, all);
     }
-    if room.len() < n {
-        return refuse(9, n);
+    if room.len() < all {
+        return refuse(9, all);
     }
     forth::write(book, h, list, size, room);
-    Converted::Wrote(n)
+    Converted::Wrote(all)
 }
 
 // Takes a derivation of the goal, a relation and its values, to the trace of its steps, in the book that the bytes hold.

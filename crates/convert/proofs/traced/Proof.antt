@@ -10,14 +10,14 @@ use Rattle.convert.proofs.traced.Tie as tie
 size-requires : tie.Need-size-requires
 size-requires c κs = c .before .pre .0 .good
 
-add-n : tie.Need-add-n
-add-n c = omega (arith, c .size .ensures .small, c .before .before .pre .1 .few)
+add-all : tie.Need-add-all
+add-all c = omega (arith, c .size .ensures .small, c .before .before .pre .1 .few)
 
-mul-n : tie.Need-mul-n
-mul-n c = record { fits = omega (arith, count-small (c .before .before .before .pre .1) (c .before .size .ensures .small) (c .count .ensures .1)) }
+mul-all : tie.Need-mul-all
+mul-all c = record { fits = omega (arith, count-small (c .before .before .before .pre .1) (c .before .size .ensures .small) (c .count .ensures .1)) }
 
-add-n-2 : tie.Need-add-n-2
-add-n-2 c = record { fits = omega (arith, count-small (c .before .before .before .pre .1) (c .before .size .ensures .small) (c .count .ensures .1)) }
+add-all-2 : tie.Need-add-all-2
+add-all-2 c = record { fits = omega (arith, count-small (c .before .before .before .pre .1) (c .before .size .ensures .small) (c .count .ensures .1)) }
 
 returns : tie.Need-returns
 returns c =
@@ -42,10 +42,10 @@ traced-spec =
     tie.close
     (tie.spec
     size-requires
-    add-n
+    add-all
     (λ c κs. search needs)
-    mul-n
-    add-n-2
+    mul-all
+    add-all-2
     (λ c κs. search needs)
     returns
     (λ c κs. search needs)
