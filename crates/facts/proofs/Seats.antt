@@ -6,6 +6,7 @@ use mathlib.Core.Logic.{_⊎_, inl, inr}
 use mathlib.Core.List.{List}
 use mathlib.Core.Option.{some}
 use lib.ListN.{length, getD, take, drop}
+use lib.Seq.{getD-take}
 use lib.Dec.{ltb→lt, eqb→eq}
 use lib.IntN.{ℤ}
 use borrow.Author.Tests.{ne-eqb}
@@ -28,6 +29,8 @@ use Rattle.book.specs.Read.{read}
 use Rattle.book.specs.Answer as books
 use Rattle.book.specs.Meaning.{bookIn}
 use Rattle.book.specs.Joined.{Held}
+use Rattle.book.specs.Trailer.{read-trailed}
+use Rattle.book.proofs.Good.{good-front}
 use Rattle.facts.specs.declared.Answer.{Answer}
 use Rattle.facts.specs.declared.Answer.the-variants.{Accepted, Refused}
 use Rattle.facts.specs.declared.Instance.{Instance}
@@ -83,14 +86,32 @@ module _ (s : List ℕ) (h : Header) (l : List ℤ) (i more : ℕ) (x : Instance
 
 -- ---- a goal that was accepted
 
-pub goal-known : (s : List ℕ) (h : Header) (r : ℕ) (vs : List ℤ) {y : Answer} → read s ≡ readings.Good h → y ≡ told (judgeGoal (bookIn s h) r vs) → y ≡ Accepted →
-    (r < h .relations) × (length vs ≡ getD s r 0)
-unfolding judgeGoal
-goal-known s h r vs good p q =
-    let (t, e) = need-ok _ _ _ _ .0 (told-ok _ (sym p ∙ q)) in
-    let (u, _) = need-ok _ _ _ _ .0 e in
-    let below : r < h .relations = omega (arith, ltb→lt r (length (bookIn s h .arities)) t, relations-are s h good) in
-    (below, eqb→eq (length vs) (getD (bookIn s h .arities) r 0) u ∙ arity-is s h r below)
+module _ (s : List ℕ) (h : Header) (r : ℕ) (vs : List ℤ) {y : Answer} (good : read s ≡ readings.Good h) (p : y ≡ told (judgeGoal (bookIn s h) r vs)) (q : y ≡ Accepted) where
+  pub goal-below : r < h .relations
+  unfolding judgeGoal
+  goal-below =
+      let (t, e) = need-ok _ _ _ _ .0 (told-ok _ (sym p ∙ q)) in
+      omega (arith, ltb→lt r (length (bookIn s h .arities)) t, relations-are s h good)
+
+  pub goal-full : length vs ≡ getD s r 0
+  unfolding judgeGoal
+  goal-full =
+      let (t, e) = need-ok _ _ _ _ .0 (told-ok _ (sym p ∙ q)) in
+      let (u, _) = need-ok _ _ _ _ .0 e in
+      eqb→eq (length vs) (getD (bookIn s h .arities) r 0) u ∙ arity-is s h r goal-below
+
+-- ---- the front of an accepted book, up to the index
+
+module _ (s : List ℕ) (h : Header) where
+  pub front-is : read s ≡ readings.Good h → h .start ≡ length (take (h .start) s)
+  front-is good = good-front s h (read-trailed s h good)
+
+  -- it has the goal's arity too
+  pub goal-small : (r : ℕ) → read s ≡ readings.Good h → r < h .relations → r < 255
+  goal-small r good k = let w = read-trailed s h good .kept in omega arith
+
+  pub goal-arity : (r n : ℕ) → read s ≡ readings.Good h → r < h .relations → n ≡ getD s r 0 → n ≡ getD (take (h .start) s) r 0
+  goal-arity r n good k e = let w = read-trailed s h good .kept in e ∙ sym (getD-take (h .start) s r 0 (omega arith))
 
 -- ---- one part of an answer after another
 
@@ -103,13 +124,16 @@ module _ (a b : lists.Answer) {x : Answer} where
   unfolding andThen
   then-on p q e = rw (told-ok a (sym p ∙ q)) e
 
-module _ (s : List ℕ) (f : meant.Book → lists.Answer) {r : Reading} {x : Answer} where
-  pub book-stop : {g : Refusal} → r ≡ read s → r ≡ readings.Refused g → x ≡ refusalOf r → x ≡ told (onBook s f)
-  unfolding onBook afterBook books.answer books.told refusalOf told
-  book-stop p q e = rw (sym p ∙ q) (rw q at e)
+pub book-good : (s : List ℕ) (h : Header) {r : Reading} → books.Answers s r → r ≡ readings.Good h → read s ≡ readings.Good h
+book-good s h p q = sym (p .is) ∙ q
 
-  pub book-on : {h : Header} → r ≡ read s → r ≡ readings.Good h → x ≡ told (f (bookIn s h)) → x ≡ told (onBook s f)
+module _ (s : List ℕ) (f : meant.Book → lists.Answer) {r : Reading} {x : Answer} where
+  pub book-stop : {g : Refusal} → books.Answers s r → r ≡ readings.Refused g → x ≡ refusalOf r → x ≡ told (onBook s f)
+  unfolding onBook afterBook books.answer books.told refusalOf told
+  book-stop p q e = rw (sym (p .is) ∙ q) (rw q at e)
+
+  pub book-on : {h : Header} → books.Answers s r → r ≡ readings.Good h → x ≡ told (f (bookIn s h)) → x ≡ told (onBook s f)
   unfolding onBook afterBook books.answer books.told
-  book-on p q e = rw (sym p ∙ q) e
+  book-on p q e = rw (sym (p .is) ∙ q) e
 
 pub ruleset sequences = (then-stop, then-on, book-stop, book-on)

@@ -67,8 +67,8 @@ fn wide(x: u8) -> usize
 
 // ---- numbers of a list
 
-// the number at i as a clause's, or n if it is below zero
-fn number_at(list: &[i32], i: usize, n: usize) -> usize
+// The number at i as a clause's, or n if it is below zero.
+pub fn number_at(list: &[i32], i: usize, n: usize) -> usize
     requires { ⌜ i < length (now list) ⌝ }
     ensures { λ r. ⌜ r ≡ numberOr n (getD (now (list .entry)) i (pos 0)) ⌝ }
 {
