@@ -7,6 +7,7 @@ use mathlib.Core.Option.{none, some}
 use mathlib.Core.Bool.{true, false}
 use mathlib.Core.List.{List}
 use lib.ListN.{length, getD}
+use lib.IntN.{ℤ}
 use Rattle.meaning.specs.Constraint.{Constraint}
 use Rattle.meaning.specs.Book.{Book, Fact, Step, none-such, Instance, head, body, query}
 use Rattle.meaning.specs.Limits.{Limits}
@@ -26,7 +27,14 @@ use Rattle.book.specs.Read.{read, constraintOf}
 use Rattle.book.specs.Meaning.{bookIn}
 use Rattle.book.specs.Joined as joined
 use Rattle.book.specs.Joined.{Held}
-use Rattle.book.specs.Answer.{accepted, answer, Answers}
+use Rattle.book.specs.Answer as book
+use Rattle.book.specs.Answer.{accepted, answer}
+use Rattle.facts.specs.declared.Answer as facts
+use Rattle.facts.specs.declared.Answer.the-variants as facts-answers
+use Rattle.facts.specs.Answer.{Answers}
+use Rattle.derivation.specs.Answer as derivation
+use Rattle.derivation.specs.Exact as derivations
+use Rattle.derivation.specs.Exact.{Derived}
 use Rattle.encode.specs.Encode.{encode, constraintBytes}
 use Rattle.encode.specs.Stands.{Bytes}
 use Rattle.encode.specs.Written.{constraint-written}
@@ -36,12 +44,17 @@ use Rattle.encode.specs.Small.{encode-bytes}
 -- ---- Demand 1: every book gets one answer
 
 -- no second reply of `book::read_book` satisfies its promise
-pub one-reading : (s : List ℕ) (r q : Reading) → Answers s r → Answers s q → r ≡ q
+pub one-reading : (s : List ℕ) (r q : Reading) → book.Answers s r → book.Answers s q → r ≡ q
 one-reading s r q h k = h .is ∙ sym (k .is)
 
 -- nor does a second record of `book::record`, or a second part of `book::constraint_of` (whose promise is an equation)
 pub one-record : (s : List ℕ) (h : Header) (k : ℕ) (l m : Clause) → Held s h k l → Held s h k m → l ≡ m
 one-record = joined.one-record
+
+-- nor does a second reply of the derivation check
+pub one-derivation-answer : (s : List ℕ) (l : List ℤ) (r : ℕ) (vals : List ℤ) (x y : facts.Answer)
+    → Answers (derivation.answer s l r vals) x → Answers (derivation.answer s l r vals) y → x ≡ y
+one-derivation-answer = derivation.unique
 
 -- ---- Demand 2: a book is accepted exactly when it is document 01's writing of a book within the limits
 
@@ -60,6 +73,11 @@ one-writing s t x y b p q = sym (accepts-exactly s x b .0 p .0) ∙ accepts-exac
 pub part-is-constraint : (s : List ℕ) (h : Header) → Bytes s → read s ≡ Good h → (k : ℕ) → k < h .count
     → constraintOf s k ≡ constraintBytes (getD (bookIn s h .clauses) k none-such .rule)
 part-is-constraint s h bytes good k below = constraint-written s h bytes good k below
+
+-- the derivation check accepts exactly the numbers of a derivation of the goal in the book that the bytes hold; x is its reply
+pub derivation-exact : (s : List ℕ) (l : List ℤ) (r : ℕ) (vals : List ℤ) (x : facts.Answer) → Answers (derivation.answer s l r vals) x
+    → (x ≡ facts-answers.Accepted) ↔ Derived s l r vals
+derivation-exact = derivations.exact
 
 -- ---- Demand 3: what is derived is reached, and the other way
 
