@@ -1,0 +1,4 @@
+pub mod Answer
+pub mod Place
+pub mod Instance
+pub mod Example
