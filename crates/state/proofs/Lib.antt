@@ -1,0 +1,3 @@
+pub mod Difference
+pub mod Shape
+pub mod Laws

@@ -1,0 +1,4 @@
+pub mod Step
+pub mod Answer
+pub mod Exact
+pub mod Cases
