@@ -60,7 +60,7 @@ module _ (b : Book) where
   unfolding walk total
   walk-total = from-length 0 (b .clauses)
 
-  sum-append : (cs ds : List Clause) → sum b (cs ++ ds) ≡ sum b cs + sum b ds
+  pub sum-append : (cs ds : List Clause) → sum b (cs ++ ds) ≡ sum b cs + sum b ds
   unfolding sum
   sum-append [] ds = omega arith
   sum-append (c ∷ cs) ds = omega (arith, sum-append cs ds)

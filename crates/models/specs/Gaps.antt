@@ -31,7 +31,7 @@ no-gap x k = rw (negℤ-+ℤ x (pos k), ← (+ℤ-assoc x (negℤ x) (negℤ (po
     none zero = refl
     none (suc k) = refl
 
-natural-pos : (z : ℤ) → T (nonNeg z) → pos (natural z) ≡ z
+pub natural-pos : (z : ℤ) → T (nonNeg z) → pos (natural z) ≡ z
 unfolding natural
 natural-pos (pos n) h = refl
 natural-pos (negsuc n) h = absurd h

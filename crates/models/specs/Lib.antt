@@ -8,4 +8,5 @@ pub mod Found
 pub mod Exact
 pub mod Written
 pub mod Odometer
+pub mod Cap
 pub mod Table

@@ -28,6 +28,11 @@ module _ (w : ℕ → Window) where
   up zero vs = vs
   up (suc i) vs = pick (ltZ (getD vs i (pos 0)) (w i .hi)) (set vs i (getD vs i (pos 0) +ℤ pos 1)) (up i (set vs i (w i .lo)))
 
+  -- the low ends of the first i variables' windows, in place
+  unfoldable pub lows : ℕ → List ℤ → List ℤ
+  lows zero vs = vs
+  lows (suc i) vs = set (lows i vs) i (w i .lo)
+
   -- k assignments of n variables from vs on
   unfoldable pub run : ℕ → ℕ → List ℤ → List (List ℤ)
   run n zero vs = []
@@ -163,3 +168,25 @@ module _ (w : ℕ → Window) where
       let a : assignments w n ≡ take n vs ∷ after w n vs = rw p at s in
       let c : count w n ≡ suc (length (after w n vs)) = sym (assignments-count w n) ∙ ap length a in
       rw c (a ∙ sym (run-after (length (after w n vs)) n vs l h refl))
+
+  pub lows-length : (n : ℕ) (vs : List ℤ) → length (lows n vs) ≡ length vs
+  unfolding lows
+  lows-length zero vs = refl
+  lows-length (suc n) vs = length-set (lows n vs) n (w n .lo) ∙ lows-length n vs
+
+  pub lows-drop : (n : ℕ) (vs : List ℤ) (k : ℕ) → n ≤ k → drop k (lows n vs) ≡ drop k vs
+  unfolding lows
+  lows-drop zero vs k h = refl
+  lows-drop (suc n) vs k h = drop-set-lt k (lows n vs) n (w n .lo) h ∙ lows-drop n vs k (omega arith)
+
+  lows-at : (n : ℕ) (vs : List ℤ) → n ≤ length vs → (i : ℕ) → i < n → getD (lows n vs) i (pos 0) ≡ w i .lo
+  unfolding lows
+  lows-at zero vs l i h = absurd (let z : ⊥ = omega arith in z)
+  lows-at (suc n) vs l i h = ⊎-elim
+      (λ k. getD-set-other (lows n vs) n i (w n .lo) (pos 0) (λ e. omega arith) ∙ lows-at n vs (omega arith) i k)
+      (λ k. let e : i ≡ n = omega arith in rw e (getD-set-same (lows n vs) n (w n .lo) (pos 0) (omega (arith, lows-length n vs))))
+      (lt-or-le i n)
+
+  -- the walk that the code makes
+  pub walked : (n : ℕ) (vs : List ℤ) → n ≤ length vs → ((i : ℕ) → i < n → w i .lo ≤ℤ w i .hi) → assignments w n ≡ run n (count w n) (lows n vs)
+  walked n vs l opens = assignments-run n (lows n vs) (omega (arith, lows-length n vs)) (lows-at n vs l) opens
