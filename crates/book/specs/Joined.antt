@@ -87,8 +87,10 @@ clauses-read (suc k) s start n p c e q (suc i) h =
     let z : p + suc i * 2 ≡ p + 2 + i * 2 = omega arith in
     step-went _ _ _ no-step q (λ d w r. rw z (clauses-read k s start n (p + 2) d e r i (omega arith)))
 
--- what the code has of clause k is the meaning's clause k, and it is sound
+-- what the code has of clause k is what stands where the index says; it is the meaning's clause k, and it is sound
 pub record Held (s : List ℕ) (h : Header) (k : ℕ) (l : Clause) : Type 0 where
+  pub past : Cursor
+  pub reads : partsAt (take (h .start) s) (h .relations) (entryAt s (h .start) k) ≡ clauses.Got l past
   pub is : getD (bookIn s h .clauses) k meant.none-such ≡ clauseIn (take (h .start) s) l
   pub sound : Sound (take (h .start) s) (h .relations) l
 
@@ -104,10 +106,14 @@ module _ (s : List ℕ) (h : Header) (good : read s ≡ readings.Good h) where
   pub held : (k : ℕ) → k < h .count → (l : Clause) (e : Cursor) →
       clauseAt (take (h .start) s) (h .relations) (entryAt s (h .start) k) ≡ clauses.Got l e → Held s h k l
   unfolding bookIn clauseNumber clauseOr
-  held k below l e q = record {
-    is = upTo-at (h .count) _ k meant.none-such below ∙ ap (clauseOr (take (h .start) s)) q;
-    sound = sound (take (h .start) s) (h .relations) (entryAt s (h .start) k) l e q;
-  }
+  held k below l e q =
+      let p = parts-of (take (h .start) s) (h .relations) (entryAt s (h .start) k) l e q in
+      record {
+        past = p .0;
+        reads = p .1;
+        is = upTo-at (h .count) _ k meant.none-such below ∙ ap (clauseOr (take (h .start) s)) q;
+        sound = sound (take (h .start) s) (h .relations) (entryAt s (h .start) k) l e q;
+      }
 
   pub count-is : length (bookIn s h .clauses) ≡ h .count
   unfolding bookIn
@@ -132,3 +138,7 @@ module _ (s : List ℕ) (h : Header) (k : ℕ) (l : Clause) {m : Cursor} {r : Cl
       absurd (no-clause f (sym g ∙ e))
 
 pub ruleset holding = (held-by, never-refused)
+
+-- no two records satisfy that promise
+pub one-record : (s : List ℕ) (h : Header) (k : ℕ) (l m : Clause) → Held s h k l → Held s h k m → l ≡ m
+one-record s h k l m p q = let e = p .reads in let f = q .reads in let same : l ≡ m = cc in same

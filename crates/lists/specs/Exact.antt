@@ -1,20 +1,19 @@
 -- The derivation check accepts exactly the derivations of the goal.
-use mathlib.Core.Path.{_≡_, refl, sym, ap, _∙_}
+use mathlib.Core.Path.{_≡_, refl}
 use mathlib.Core.Logic.{_↔_}
 use mathlib.Core.Option.{Option, none, some}
-use mathlib.Core.List.{List, [], _∷_, _++_, map, nil≢cons, cons≢nil, tail-eq-of-cons-eq}
+use mathlib.Core.List.{List, [], _∷_, _++_}
 use Prim.Native.Nat.{ℕ, zero, suc, _+_, _≤_}
 use native.Mathlib.Nat.{not-suc-le-zero, le-refl}
 use native.Mathlib.Omega.{arith}
-use lib.ListN.{length, take, drop, length-append, length-take, take-append-drop}
-use lib.IntN.{ℤ, pos}
+use lib.ListN.{length, drop, length-append, length-take, take-append-drop}
+use lib.IntN.{ℤ}
 use Rattle.meaning.specs.Book.{Book, Fact, Step, Instance, head, body, clauseOf}
 use Rattle.meaning.specs.Derivation.{Chain, lastHead, Derives}
 use Rattle.lists.specs.Answer.{ok}
 use Rattle.lists.specs.Instance.{clauseNumber, clauseAt, stepAt}
 use Rattle.lists.specs.Derivation.{numbers, judgeStep, checkFrom, check, goal, checkDerivation}
-use Rattle.lists.specs.Trace.{sum}
-use Rattle.lists.specs.Laws.{refused-not, need-ok, and-ok, same-exact, judge-exact, clause-number, step-at, after-step, append-same, Asked, asked-exact}
+use Rattle.lists.specs.Laws.{refused-not, need-ok, and-ok, same-exact, judge-exact, clause-number, step-at, after-step, Asked, asked-exact}
 
 pub step-exact : (b : Book) (k : ℕ) (l : List ℤ) (i : ℕ) (o : Option Fact)
     → (judgeStep b k l i o ≡ ok) ↔ (Instance b (stepAt b k l) × (body b (stepAt b k l) ≡ o))
@@ -83,26 +82,3 @@ checkDerivation-exact b r vals l =
           record { asked = q; steps = d; listed = p; derives = h },
       λ h. whole .1 (h .asked, exact .1 (h .steps, h .listed, h .derives)),
     )
-
--- ---- the numbers of a derivation
-
--- they tell the steps
-pub numbers-injective : (b : Book) (o p : Option Fact) (d e : List Step) → Chain b o d → Chain b p e → numbers d ≡ numbers e → d ≡ e
-unfolding numbers
-numbers-injective b o p [] [] c k q = refl
-numbers-injective b o p [] (s ∷ e) c k q = absurd (nil≢cons q)
-numbers-injective b o p (s ∷ d) [] c k q = absurd (cons≢nil q)
-numbers-injective b o p (s ∷ d) (t ∷ e) c k q =
-    let z : s .clause ≡ t .clause = cc in
-    let vars : length (s .vals) ≡ length (t .vals) = c .0 .count ∙ ap (λ (n : ℕ). clauseAt b n .vars) z ∙ sym (k .0 .count) in
-    let (v, r) = append-same (s .vals) (t .vals) (numbers d) (numbers e) vars (tail-eq-of-cons-eq q) in
-    λ i. record { clause = z i; vals = v i } ∷ numbers-injective b (some (head b s)) (some (head b t)) d e (c .2) (k .2) r i
-
--- a step's clause number and its values
-abbrev pub stepLength : Book → Step → ℕ
-stepLength b s = 1 + clauseOf b s .vars
-
-pub numbers-length : (b : Book) (o : Option Fact) (d : List Step) → Chain b o d → length (numbers d) ≡ sum (map (stepLength b) d)
-unfolding numbers sum
-numbers-length b o [] c = refl
-numbers-length b o (s ∷ d) c = omega (arith, length-append (s .vals) (numbers d), c .0 .count, numbers-length b (some (head b s)) d (c .2))

@@ -3,16 +3,15 @@ use mathlib.Core.Path.{_≡_, refl, sym, ap, ap₂, _∙_}
 use mathlib.Core.Logic.{_↔_}
 use mathlib.Core.Bool.{Bool, true, false, _&&_}
 use mathlib.Core.Option.{Option, none, some}
-use mathlib.Core.List.{List, [], _∷_, _++_}
+use mathlib.Core.List.{List, [], _∷_, _++_, tail-eq-of-cons-eq}
 use Prim.Native.Nat.{ℕ, suc, _+_, _≤_, _<_}
 use native.Mathlib.Omega.{arith}
-use lib.ListN.{length, getD, take, drop, length-append}
+use lib.ListN.{length, getD, take, drop}
 use lib.Seq.{length-take-le, take-at, drop-at}
 use lib.Dec.{T, leb→le, le→leb, ltb→lt, lt→ltb, eqb, eqb→eq, eqb-refl}
 use lib.IntN.{ℤ, pos, negsuc}
 use lib.Signed.{leZ, leZ-yes}
 use Rattle.meaning.specs.Book.{Book, Fact, Step, Window, Inside, Within, Instance, clauseOf, variableWindow}
-use Rattle.meaning.specs.Constraint.{holds}
 use Rattle.lists.specs.Answer.{Answer, ok, refused, need, andThen}
 use Rattle.lists.specs.Compare.{eqZ, eqVals, same, inside, allIn}
 use Rattle.lists.specs.Instance.{clauseNumber, clauseAt, stepAt, judgeClause, judge}
@@ -149,6 +148,14 @@ append-same x y u v n e = (
   sym (take-at x u (length y) n) ∙ ap (take (length y)) e ∙ take-at y v (length y) refl,
   sym (drop-at x u (length y) n) ∙ ap (drop (length y)) e ∙ drop-at y v (length y) refl,
 )
+
+pub step-same : (b : Book) {s t : Step} (u v : List ℤ) → Instance b s → Instance b t
+    → pos (s .clause) ∷ (s .vals ++ u) ≡ pos (t .clause) ∷ (t .vals ++ v) → (s ≡ t) × (u ≡ v)
+step-same b {s} {t} u v i j e =
+    let k : s .clause ≡ t .clause = cc in
+    let n : length (s .vals) ≡ length (t .vals) = i .count ∙ ap (λ (c : ℕ). clauseAt b c .vars) k ∙ sym (j .count) in
+    let (x, r) = append-same (s .vals) (t .vals) u v n (tail-eq-of-cons-eq e) in
+    (λ h. record { clause = k h; vals = x h }, r)
 
 -- ---- the goal and the list's length
 

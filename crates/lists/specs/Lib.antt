@@ -3,6 +3,13 @@ pub mod Compare
 pub mod Instance
 pub mod Derivation
 pub mod Trace
+pub mod Convert
 pub mod Due
 pub mod Laws
 pub mod Exact
+pub mod Walk
+pub mod Numbers
+pub mod Converted
+pub mod Replies
+pub mod Places
+pub mod Back

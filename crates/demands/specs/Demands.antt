@@ -1,0 +1,107 @@
+-- The demands on the kit, as theorems. Read this file first; then `meaning` (what a clause means), and the format: `book` (how bytes are read) and
+-- `encode` (how a book is written). The proofs are cited from there. A list of bytes is `Bytes s`: every number is below 256.
+use Prim.Native.Nat.{ℕ, _<_, _≤_}
+use mathlib.Core.Path.{_≡_, sym, _∙_}
+use mathlib.Core.Logic.{_↔_}
+use mathlib.Core.Option.{none, some}
+use mathlib.Core.Bool.{true, false}
+use mathlib.Core.List.{List}
+use lib.ListN.{length, getD}
+use Rattle.meaning.specs.Constraint.{Constraint}
+use Rattle.meaning.specs.Book.{Book, Fact, Step, none-such, Instance, head, body, query}
+use Rattle.meaning.specs.Limits.{Limits}
+use Rattle.meaning.specs.Derivation.{Derives, Derivable}
+use Rattle.meaning.specs.System.{Enabled, Move, Reaches, Reachable, moves, steps, lastWriters}
+use Rattle.meaning.specs.State.{State, flags, Flagged, first, Initial, write, StepsTo}
+use Rattle.meaning.specs.Model.{Model}
+use Rattle.meaning.specs.Laws.{laws, flags-laws}
+use Rattle.meaning.specs.Conversions.{moves-length}
+use Rattle.meaning.specs.Main as main
+use Rattle.meaning.specs.Stated as stated
+use Rattle.cursor.specs.declared.Clause.{Clause}
+use Rattle.book.specs.declared.Header.{Header}
+use Rattle.book.specs.declared.Reading.{Reading}
+use Rattle.book.specs.declared.Reading.the-variants.{Good}
+use Rattle.book.specs.Read.{read, constraintOf}
+use Rattle.book.specs.Meaning.{bookIn}
+use Rattle.book.specs.Joined as joined
+use Rattle.book.specs.Joined.{Held}
+use Rattle.book.specs.Answer.{accepted, answer, Answers}
+use Rattle.encode.specs.Encode.{encode, constraintBytes}
+use Rattle.encode.specs.Stands.{Bytes}
+use Rattle.encode.specs.Written.{constraint-written}
+use Rattle.encode.specs.Exact as exact
+use Rattle.encode.specs.Small.{encode-bytes}
+
+-- ---- Demand 1: every book gets one answer
+
+-- no second reply of `book::read_book` satisfies its promise
+pub one-reading : (s : List ℕ) (r q : Reading) → Answers s r → Answers s q → r ≡ q
+one-reading s r q h k = h .is ∙ sym (k .is)
+
+-- nor does a second record of `book::record`, or a second part of `book::constraint_of` (whose promise is an equation)
+pub one-record : (s : List ℕ) (h : Header) (k : ℕ) (l m : Clause) → Held s h k l → Held s h k m → l ≡ m
+one-record = joined.one-record
+
+-- ---- Demand 2: a book is accepted exactly when it is document 01's writing of a book within the limits
+
+pub accepts-exactly : (s : List ℕ) → Bytes s → (b : Book) → (answer s ≡ accepted b) ↔ ((encode b ≡ s) × Limits b × (length s ≤ 60000))
+accepts-exactly = exact.accepts-exactly
+
+-- the writing of every such book is bytes
+pub writing-is-bytes : (b : Book) → Limits b → length (encode b) ≤ 60000 → Bytes (encode b)
+writing-is-bytes = encode-bytes
+
+-- no two byte strings are one book
+pub one-writing : (s t : List ℕ) → Bytes s → Bytes t → (b : Book) → answer s ≡ accepted b → answer t ≡ accepted b → s ≡ t
+one-writing s t x y b p q = sym (accepts-exactly s x b .0 p .0) ∙ accepts-exactly t y b .0 q .0
+
+-- the part of an accepted book that is handed out for clause k is the writing of that clause's constraint
+pub part-is-constraint : (s : List ℕ) (h : Header) → Bytes s → read s ≡ Good h → (k : ℕ) → k < h .count
+    → constraintOf s k ≡ constraintBytes (getD (bookIn s h .clauses) k none-such .rule)
+part-is-constraint s h bytes good k below = constraint-written s h bytes good k below
+
+-- ---- Demand 3: what is derived is reached, and the other way
+
+module _ {b : Book} (l : Limits b) where
+  -- a fact is derivable exactly when some trace ends with that relation's flag set and those values in its places
+  pub derivable-iff-reached : (f : Fact) → Derivable b f ↔ Reachable b (Flagged b) f
+  derivable-iff-reached = main.flags-derivable-iff-reached l
+
+  -- from whichever initial state
+  pub derivable-iff-reached-from : {σ : State flags} → Initial b flags σ → (f : Fact) → Derivable b f ↔ ((ms : List (Move b (Flagged b))) × Reaches b (Flagged b) σ ms f)
+  derivable-iff-reached-from = main.derivable-iff-reached-from l (Flagged b) (laws b flags flags-laws)
+
+  -- a derivation becomes a trace of as many steps, from the state whose flags are 0 and whose places are all lo
+  pub derivation-to-trace : {d : List Step} {f : Fact} → Derives b d f
+      → Reaches b (Flagged b) (first b flags) (moves b (Flagged b) (first b flags) d) f × (length (moves b (Flagged b) (first b flags) d) ≡ length d)
+  derivation-to-trace {d} h = (main.flags-derivation-to-trace l h, moves-length b (Flagged b) (first b flags) d)
+
+  -- a trace becomes a derivation of no more steps, by the last writers
+  pub trace-to-derivation : {σ : State flags} {ms : List (Move b (Flagged b))} {f : Fact} → Reaches b (Flagged b) σ ms f
+      → Derives b (lastWriters b (f .rel) (steps b (Flagged b) ms)) f × (length (lastWriters b (f .rel) (steps b (Flagged b) ms)) ≤ length ms)
+  trace-to-derivation = main.flags-trace-to-derivation l
+
+  -- once there is a model, neither a derivation of the query nor a trace to it exists, of any length
+  pub model-excludes : {m : List Constraint} → Model b m → (¬ Derivable b (query b)) × (¬ Reachable b (Flagged b) (query b))
+  model-excludes m = (main.model-derivation m, main.flags-model-trace l m)
+
+-- over and back is the same derivation
+pub over-and-back : {b : Book} {d : List Step} {f : Fact} → Derives b d f
+    → lastWriters b (f .rel) (steps b (Flagged b) (moves b (Flagged b) (first b flags) d)) ≡ d
+over-and-back {b} h = main.over-and-back (Flagged b) (first b flags) h
+
+-- ---- the step of the walked system is document 01's: stated as a relation of two states
+
+module _ {b : Book} (l : Limits b) (s : Step) (σ : State flags) (c : length (σ .ctl) ≡ length (b .arities)) (r : length (σ .rows) ≡ length (b .arities)) where
+  -- the head's flag set, its places replaced, all else as before
+  pub step-is-stated : (σ′ : State flags) → StepsTo b s σ σ′ ↔ (Instance b s × Enabled (Flagged b) (body b s) σ × (σ′ ≡ write flags (head b s) σ))
+  step-is-stated = stated.step-is-stated l s σ c r
+
+  -- a clause without body steps in every state
+  pub bodiless-anywhere : Instance b s → body b s ≡ none → (σ′ : State flags) × StepsTo b s σ σ′
+  bodiless-anywhere = stated.bodiless-anywhere l s σ c r
+
+-- a step keeps its body's flag
+pub body-kept : {b : Book} {s : Step} {σ σ′ : State flags} {f : Fact} → StepsTo b s σ σ′ → body b s ≡ some f → getD (σ′ .ctl) (f .rel) false ≡ true
+body-kept = stated.body-kept
