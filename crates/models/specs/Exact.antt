@@ -27,7 +27,7 @@ use Rattle.cursor.specs.Steps.{pick}
 use Rattle.cursor.specs.Tree.{Got, got, no, then, treeAt}
 use Rattle.cursor.specs.Inverse.{pick-by, no-tree, then-went}
 use Rattle.book.specs.Answer.{answer, accepted}
-use Rattle.models.specs.Read.{Part, rules, inModel, ruleThen, fresh, partsAt, modelIn}
+use Rattle.models.specs.Read.{Part, rules, numberIn, inModel, ruleThen, fresh, partsAt, modelIn}
 use Rattle.models.specs.Walk.{Assignment, walk, total, position, satisfies, met, breaks, Finding, clean, broken, find}
 use Rattle.models.specs.Found.{Among, tried, position-walk, walk-total, Whole, First, find-clean, find-broken, walk-clean}
 use Rattle.models.specs.Answer.{Answer, plain, slots, outcome, no-part, weighed, judged, examine, inBook, modelAnswer}
@@ -44,7 +44,7 @@ pub record Holds (s ns : List ℕ) (m : List Constraint) : Type 0 where
   pub reads : modelIn s ns ≡ got parts end
   pub are : rules parts ≡ m
 
-rule-went : (y : Got Constraint) (go : Constraint → Cursor → Got (List Part)) {ps : List Part} {e : Cursor} {Q : Type 0} → ruleThen y go ≡ got ps e →
+pub rule-went : (y : Got Constraint) (go : Constraint → Cursor → Got (List Part)) {ps : List Part} {e : Cursor} {Q : Type 0} → ruleThen y go ≡ got ps e →
     ((t : Constraint) (d : Cursor) → y ≡ got t d → go t d ≡ got ps e → Q) → Q
 unfolding ruleThen
 rule-went (got t d) go q k = k t d refl q
@@ -65,7 +65,7 @@ Fine (got ps c) = Unit {0}
 Fine (no r) = (r .number ≡ 21) ⊎ (r .number ≡ 22)
 
 fine-rule : (y : Got Constraint) (go : Constraint → Cursor → Got (List Part)) → ((t : Constraint) (d : Cursor) → Fine (go t d)) → Fine (ruleThen y go)
-unfolding ruleThen inModel
+unfolding ruleThen inModel numberIn
 fine-rule (got t d) go h = h t d
 fine-rule (no r) go h = pick-by (λ n. (n ≡ 21) ⊎ (n ≡ 22)) _ _ _ (λ t. inl refl) (λ t. inr refl)
 

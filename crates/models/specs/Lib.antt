@@ -9,4 +9,5 @@ pub mod Exact
 pub mod Written
 pub mod Odometer
 pub mod Cap
+pub mod Passed
 pub mod Table

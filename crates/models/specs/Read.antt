@@ -1,7 +1,7 @@
 -- A model as bytes: one constraint for each relation in order, over its places as variables, with nothing left over.
-use Prim.Native.Nat.{ℕ}
+use Prim.Native.Nat.{ℕ, _+_}
 use mathlib.Core.List.{List, [], _∷_, map}
-use lib.ListN.{length}
+use lib.ListN.{length, set}
 use lib.Dec.{eqb}
 use Rattle.meaning.specs.Constraint.{Constraint}
 use Rattle.cursor.specs.declared.Cursor.{Cursor}
@@ -22,8 +22,11 @@ abbrev pub rules : List Part → List Constraint
 rules ps = map (λ (p : Part). p .rule) ps
 
 -- a constraint's refusal has its own number in a model: 21 for 7, 22 for 8
+unfoldable pub numberIn : ℕ → ℕ
+numberIn n = pick (eqb n 7) 21 22
+
 unfoldable pub inModel : Refusal → Refusal
-inModel r = refuse (pick (eqb (r .number) 7) 21 22) (r .place)
+inModel r = refuse (numberIn (r .number)) (r .place)
 
 -- go on with a constraint that was read, or stop
 unfoldable pub ruleThen : Got Constraint → (Constraint → Cursor → Got (List Part)) → Got (List Part)
@@ -45,8 +48,22 @@ partsAt s (n ∷ ns) c =
 unfoldable pub modelIn : List ℕ → List ℕ → Got (List Part)
 modelIn s ns = partsAt s ns (record { at = 0; left = 0 })
 
+-- its constraints; none where it is refused
+unfoldable pub rulesOf : Got (List Part) → List Constraint
+rulesOf (got ps c) = rules ps
+rulesOf (no r) = []
+
 -- ---- the same walk without the trees, which the code makes
+
+-- one constraint over n variables
+unfoldable pub ruleAt : List ℕ → ℕ → Cursor → Step
+ruleAt s n c = stepThen (constraintAt 16 s n (fresh c)) Moved (λ r. Refused (inModel r))
 
 unfoldable pub passAt : List ℕ → List ℕ → Cursor → Step
 passAt s [] c = pick (eqb (c .at) (length s)) (Moved c) (Refused (refuse 22 (c .at)))
-passAt s (n ∷ ns) c = stepThen (constraintAt 16 s n (fresh c)) (passAt s ns) (λ r. Refused (inModel r))
+passAt s (n ∷ ns) c = stepThen (ruleAt s n c) (passAt s ns) Refused
+
+-- where each constraint starts, put down in l from place k on
+unfoldable pub startsAt : List ℕ → List ℕ → ℕ → Cursor → List ℕ → List ℕ
+startsAt s [] k c l = l
+startsAt s (n ∷ ns) k c l = stepThen (ruleAt s n c) (λ d. startsAt s ns (k + 1) d (set l k (c .at))) (λ _. set l k (c .at))

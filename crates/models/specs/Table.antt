@@ -16,7 +16,7 @@ use Rattle.book.specs.Read.{sized, headed, trailer, readingThen, topArity, arit
 use Rattle.book.specs.Meaning.{upTo, clauseNumber, bookIn}
 use Rattle.book.specs.Answer.{told, answer}
 use Rattle.models.specs.Read as models
-use Rattle.models.specs.Read.{inModel, ruleThen, modelIn}
+use Rattle.models.specs.Read.{numberIn, inModel, ruleThen, modelIn}
 use Rattle.models.specs.Assignments.{natural, width, upFrom, assignments, count, rank}
 use Rattle.models.specs.Walk.{triesFrom, walk, sum, total, position, satisfies, met, breaks, find}
 use Rattle.models.specs.Answer.{plain, slots, outcome, weighed, judged, examine, inBook, modelAnswer}
@@ -36,5 +36,5 @@ modelB = 0 ∷ 3 ∷ 0 ∷ []
 
 pub table : (modelAnswer bookB modelB ≡ record { number = 25; place = 24; count = 24; clause = 2; values = slots (pos 3 ∷ []) })
     × (modelAnswer (set bookB 48 2) modelB ≡ plain 0 0 15)
-unfolding flatMap u16At u32At i16At i32At plus is0 leaves holds variableWindow head body pick kinds valueThen byteThen numberThen stepThen nodeThen byteAt belowAt relationAt variableAt skipAt numberAt kindAt sumAt remainsAt nodeAt follow constraintAt argumentsAt factAt bodyAt clauseThen partsAt clauseAt coefficientsAt sumOf then grow treeAt atomIn bodyIn treeOf treeIn clauseIn clauseOr sized headed trailer readingThen topArity arityAt aritiesAt recordAt clausesAt read entryAt upTo clauseNumber bookIn told answer models.partsAt inModel ruleThen modelIn natural width upFrom assignments count rank triesFrom walk sum total position satisfies met breaks find outcome weighed judged examine inBook modelAnswer
+unfolding flatMap u16At u32At i16At i32At plus is0 leaves holds variableWindow head body pick kinds valueThen byteThen numberThen stepThen nodeThen byteAt belowAt relationAt variableAt skipAt numberAt kindAt sumAt remainsAt nodeAt follow constraintAt argumentsAt factAt bodyAt clauseThen partsAt clauseAt coefficientsAt sumOf then grow treeAt atomIn bodyIn treeOf treeIn clauseIn clauseOr sized headed trailer readingThen topArity arityAt aritiesAt recordAt clausesAt read entryAt upTo clauseNumber bookIn told answer models.partsAt numberIn inModel ruleThen modelIn natural width upFrom assignments count rank triesFrom walk sum total position satisfies met breaks find outcome weighed judged examine inBook modelAnswer
 table = (refl, refl)
