@@ -10,4 +10,5 @@ pub mod Written
 pub mod Odometer
 pub mod Cap
 pub mod Passed
+pub mod Main
 pub mod Table
