@@ -23,7 +23,7 @@ from book_cases import Dice, assemble, balanced, changed, checksum, eq, le, reco
 
 CRATES = pathlib.Path(__file__).resolve().parent.parent / 'crates'
 BUFFER = 65536          # the printing program's text buffer
-LARGEST_ROOM = 1000000  # of crates/text_cases
+LARGEST_ROOM = 100000   # of crates/text_cases
 SHOWN = 1500            # a longer text is not printed
 
 
@@ -181,7 +181,7 @@ def of_length(length):
 
 def lengths():
     """Texts as long as the printing program's buffer, or nearly."""
-    for n in [BUFFER - 1, BUFFER, BUFFER + 1]:
+    for n in [BUFFER - 1, BUFFER, BUFFER + 1, LARGEST_ROOM]:
         yield f'text of {n} bytes', of_length(n)
     yield '60000 bytes', book_cases.padded(60000)
     yield '60001 bytes, else right', book_cases.padded(60001)
@@ -224,8 +224,10 @@ def books():
 
 def rooms(data, number, needed, turn):
     """The rooms that a book is tried with: one, or several at every fifth turn."""
-    if number != 0:
+    if number not in (0, 9):
         return [50]
+    if number == 9:
+        return [BUFFER, LARGEST_ROOM]
     if data == SMALL:
         return [*range(needed + 3), BUFFER]
     if needed > 5000:
@@ -239,11 +241,11 @@ def cases(made):
     """Every case, in order: (name, bytes, room)."""
     for turn, (name, data) in enumerate(made):
         number, needed = printer.print_book(data, LARGEST_ROOM)
-        for room in rooms(data, number, needed, turn):
+        for room in dict.fromkeys(rooms(data, number, needed, turn)):
             yield f'{name}, room {room}', data, room
-    yield 'empty input, no room', b'', 0
-    yield 'B refused, no room', changed(B, 58, 2), 0
-    yield 'B, the buffer of the printing program', B, BUFFER
+    yield 'empty input, room 0', b'', 0
+    yield 'B, byte 58 = 2, room 0', changed(B, 58, 2), 0
+    yield f'B, room {BUFFER}', B, BUFFER
 
 
 # ---------------------------------------------------------------------------
