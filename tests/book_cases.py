@@ -1,6 +1,6 @@
-"""The cases of the clause book's reader, for the program crates/cases.
+"""The cases of the clause book's reader, for the program crates/book_cases.
 
-  python3 tests/book_cases.py           write crates/cases/stdin and crates/cases/stdout
+  python3 tests/book_cases.py           write crates/book_cases/stdin and crates/book_cases/stdout
   python3 tests/book_cases.py --check   write nothing; self-test the reference, and compare the stored files
   python3 tests/book_cases.py --list    print each case: line of stdout, name, length, expected line
 
@@ -15,7 +15,7 @@ import sys
 sys.dont_write_bytecode = True
 import reference
 
-FOLDER = pathlib.Path(__file__).resolve().parent.parent / 'crates' / 'cases'
+FOLDER = pathlib.Path(__file__).resolve().parent.parent / 'crates' / 'book_cases'
 
 # Document 01's book B, and the 23 bytes of "Printed text".
 B = bytes.fromhex(
@@ -666,7 +666,7 @@ def main(words):
         path = FOLDER / name
         if words == ['--check']:
             same = path.exists() and path.read_bytes() == wanted
-            results.append((f'crates/cases/{name} is what is made', same))
+            results.append((f'crates/book_cases/{name} is what is made', same))
         else:
             path.write_bytes(wanted)
     print(f'{len(made)} cases, {len(stdin)} bytes')

@@ -9,3 +9,7 @@ pub mod Laws
 pub mod Exact
 pub mod Walk
 pub mod Numbers
+pub mod Converted
+pub mod Replies
+pub mod Places
+pub mod Back

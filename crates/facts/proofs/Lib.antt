@@ -1,0 +1,5 @@
+pub mod Numbers
+pub mod Laws
+pub mod Windows
+pub mod Judge
+pub mod Seats
