@@ -1,9 +1,9 @@
 -- The ways of the functions over a state.
-use mathlib.Core.Path.{_≡_, refl, sym, ap, _∙_}
+use mathlib.Core.Path.{_≡_, sym, ap, _∙_}
 use mathlib.Core.Bool.{Bool, true, false, _&&_}
 use mathlib.Core.Option.{some}
 use mathlib.Core.List.{List, [], _∷_, _++_, map, map-append, append-nil}
-use Prim.Native.Nat.{ℕ, zero, suc, _+_, _-_, _^_, _≤_, _<_}
+use Prim.Native.Nat.{ℕ, _+_, _^_, _≤_, _<_}
 use native.Mathlib.Numerals.{add-one}
 use native.Mathlib.Omega.{arith}
 use lib.ListN.{length, getD, take, drop, set, replicate, length-drop}
@@ -14,7 +14,6 @@ use lib.Signed.{mag}
 use mir.Syntax.{w32}
 use mir.Val.{hbits, toZ, ofZ}
 use Rattle.whole.specs.Whole.{own}
-use Rattle.meaning.specs.Book.{Fact}
 use Rattle.meaning.specs.State.{State, bit, flags}
 use Rattle.lists.specs.Compare.{eqZ, eqVals, firstDiff}
 use Rattle.lists.specs.Derivation.{goal}

@@ -1,19 +1,15 @@
 -- Laws of the walked state.
-use mathlib.Core.Path.{_≡_, refl, sym, ap, ap₂, _∙_}
+use mathlib.Core.Path.{_≡_, refl, ap, ap₂, _∙_}
 use mathlib.Core.Bool.{Bool, true, false, _&&_}
 use mathlib.Core.List.{List, [], _∷_, _++_, map}
-use Prim.Native.Nat.{ℕ, zero, suc, _+_, _-_, _≤_, _<_, suc-le-suc}
+use Prim.Native.Nat.{ℕ, zero, suc, _+_, _≤_, _<_}
 use native.Mathlib.Nat.{not-suc-le-zero, le-of-suc-le-suc}
-use native.Mathlib.Numerals.{add-one}
-use native.Mathlib.Omega.{arith}
-use lib.ListN.{length, getD, take, drop, set, replicate, length-append, length-map, List·getD-map, drop-of-length-le}
-use lib.Seq.{drop-cons, length-take-le, getD-take, take-take, take-all}
-use lib.Dec.{eqb}
+use lib.ListN.{length, getD, take, drop, set, replicate, length-append, length-map, List·getD-map}
 use lib.IntN.{ℤ, pos}
 use Rattle.meaning.specs.Book.{Book, Fact}
-use Rattle.meaning.specs.State.{State, write, flags, bit}
+use Rattle.meaning.specs.State.{write, flags, bit}
 use Rattle.lists.specs.Compare.{eqVals}
-use Rattle.lists.specs.Trace.{flat, sum, cut, stateNumbers, size, has}
+use Rattle.lists.specs.Trace.{flat, sum, stateNumbers, has}
 use Rattle.state.specs.State.{front, rowsOf, stateOf}
 
 -- ---- the front of a list

@@ -14,7 +14,7 @@ ghost use Rattle.lists.specs.Trace.{flat, sum, size as stateSize, stateNumbers,
 ghost use Rattle.book.specs.Read.{read};
 ghost use Rattle.book.specs.Meaning.{bookIn};
 ghost use Rattle.book.specs.declared.Reading.the-variants.{Good};
-ghost use Rattle.facts.specs.Place.{factIn, valuesIn, Fixed, Sits, Seated};
+ghost use Rattle.facts.specs.Place.{factIn, valuesIn, Fixed, Sits};
 ghost use Rattle.state.specs.State.{front, rowsOf, stateOf, factOf, Shape, Sized, Known};
 
 fn wide(x: u8) -> usize

@@ -1,5 +1,5 @@
 -- The ways of judging the first state of a trace.
-use Prim.Native.Nat.{ℕ, zero, suc, _+_, _-_, _<_, _≤_}
+use Prim.Native.Nat.{ℕ, suc, _+_, _-_, _<_, _≤_}
 use native.Mathlib.Omega.{arith}
 use mathlib.Core.Path.{_≡_, refl, sym, ap, _∙_}
 use mathlib.Core.Bool.{Bool, true, false, _&&_}
@@ -30,7 +30,7 @@ use Rattle.facts.proofs.Judge.{told-ok, need-yes, need-no, need-le, need-gt, en
 use Rattle.facts.proofs.Seats.{then-stop, then-on}
 use Rattle.state.specs.State.{front, Sized}
 use Rattle.state.specs.Laws.{front-replicate, bits-length}
-use Rattle.state.proofs.Shape.{shape-read, many-are, size-is}
+use Rattle.state.proofs.Shape.{many-are, size-is}
 use Rattle.state.proofs.Difference.{diff-all}
 
 no-true : false ≡ true → ⊥

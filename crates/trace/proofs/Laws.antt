@@ -7,7 +7,7 @@ use mathlib.Core.List.{List}
 use mathlib.Core.Option.{some}
 use mathlib.Core.Bool.{Bool, true, false}
 use lib.ListN.{length, getD, set, take, drop, length-drop}
-use lib.Seq.{drop-drop, getD-take}
+use lib.Seq.{drop-drop}
 use lib.Dec.{leb}
 use lib.IntN.{ℤ, pos}
 use borrow.Author.Tests.{le-leb, lt-leb}
@@ -17,7 +17,7 @@ use Rattle.lists.specs.Answer as lists
 use Rattle.lists.specs.Answer.{need, andThen}
 use Rattle.lists.specs.Compare.{eqVals, firstDiff}
 use Rattle.lists.specs.Instance.{clauseAt, stepAt}
-use Rattle.lists.specs.Trace.{sum, size, stateNumbers, has, meets, judgeMove}
+use Rattle.lists.specs.Trace.{size, stateNumbers, has, meets, judgeMove}
 use Rattle.lists.specs.Due.{walkDue, walk-due-none, walk-due-more}
 use Rattle.cursor.specs.declared.Refusal.{Refusal}
 use Rattle.cursor.specs.declared.Clause.{Clause}
@@ -39,7 +39,7 @@ use Rattle.facts.specs.declared.Instance.the-variants as instances
 use Rattle.facts.specs.Instance.{numberIn, Stands, Judged}
 use Rattle.facts.proofs.Judge.{told-ok, told-no, need-yes, need-no, ends-well, arity-is}
 use Rattle.facts.proofs.Seats.{seat-body, seat-head, vars-are, body-is, head-is, stands, stopped}
-use Rattle.state.specs.State.{front, stateOf, factOf, Known, Sized}
+use Rattle.state.specs.State.{front, factOf, Known, Sized}
 use Rattle.state.specs.Laws.{state-put, state-many}
 use Rattle.state.proofs.Difference.{diff-all}
 use Rattle.trace.specs.declared.Stepped.{Stepped}

@@ -1,5 +1,4 @@
 use borrow.Author.Needs.{needs}
-use native.Mathlib.Omega.{arith}
 use Rattle.trace.proofs.Laws.{next-laws}
 use Rattle.trace.proofs.next_at.Statement.{statement}
 use Rattle.trace.proofs.next_at.Tie as tie
