@@ -35,6 +35,13 @@ use Rattle.facts.specs.Answer.{Answers}
 use Rattle.derivation.specs.Answer as derivation
 use Rattle.derivation.specs.Exact as derivations
 use Rattle.derivation.specs.Exact.{Derived}
+use Rattle.trace.specs.Answer as trace
+use Rattle.trace.specs.Exact as traces
+use Rattle.trace.specs.Exact.{Reached}
+use Rattle.models.specs.Answer.{examine}
+use Rattle.models.specs.Main as models
+use Rattle.model.specs.declared.Reply.{Reply}
+use Rattle.model.specs.Reply.{Replies, only}
 use Rattle.encode.specs.Encode.{encode, constraintBytes}
 use Rattle.encode.specs.Stands.{Bytes}
 use Rattle.encode.specs.Written.{constraint-written}
@@ -55,6 +62,15 @@ one-record = joined.one-record
 pub one-derivation-answer : (s : List ℕ) (l : List ℤ) (r : ℕ) (vals : List ℤ) (x y : facts.Answer)
     → Answers (derivation.answer s l r vals) x → Answers (derivation.answer s l r vals) y → x ≡ y
 one-derivation-answer = derivation.unique
+
+-- nor of the trace check
+pub one-trace-answer : (s : List ℕ) (l : List ℤ) (r : ℕ) (vals : List ℤ) (x y : facts.Answer)
+    → Answers (trace.answer s l r vals) x → Answers (trace.answer s l r vals) y → x ≡ y
+one-trace-answer = trace.unique
+
+-- nor of the model check, whose reply is number, place, count, clause and sixteen values
+pub one-model-reply : {book model : List ℕ} {r q : Reply} → Replies book model r → Replies book model q → r ≡ q
+one-model-reply = only
 
 -- ---- Demand 2: a book is accepted exactly when it is document 01's writing of a book within the limits
 
@@ -78,6 +94,15 @@ part-is-constraint s h bytes good k below = constraint-written s h bytes good k 
 pub derivation-exact : (s : List ℕ) (l : List ℤ) (r : ℕ) (vals : List ℤ) (x : facts.Answer) → Answers (derivation.answer s l r vals) x
     → (x ≡ facts-answers.Accepted) ↔ Derived s l r vals
 derivation-exact = derivations.exact
+
+-- the trace check accepts exactly the numbers of a trace that reaches the goal, every step a step of document 01's
+pub trace-exact : (s : List ℕ) → Bytes s → (l : List ℤ) (r : ℕ) (vals : List ℤ) (x : facts.Answer) → Answers (trace.answer s l r vals) x
+    → (x ≡ facts-answers.Accepted) ↔ Reached s l r vals
+trace-exact s bytes l r vals = traces.exact s bytes l r vals
+
+-- the model check accepts exactly the writing of a model, over at most a million assignments; the answer for the bytes of b is `examine b`
+pub model-exact : (b : Book) {model : List ℕ} → Bytes model → (examine b model .number ≡ 0) ↔ models.Accepted b model
+model-exact = models.accepted
 
 -- ---- Demand 3: what is derived is reached, and the other way
 
