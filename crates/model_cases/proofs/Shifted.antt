@@ -1,5 +1,4 @@
 -- A number of 32 bits with 2147483648 added is not negative.
-use mathlib.Core.Path.{_≡_}
 use Prim.Native.Nat.{suc, _<_}
 use native.Mathlib.Omega.{arith}
 use lib.Dec.{T}
