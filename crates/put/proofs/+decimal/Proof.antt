@@ -1,6 +1,6 @@
 use native.Mathlib.Omega.{arith}
 use borrow.Author.Needs.{needs}
-use Rattle.put.proofs.Laws.{join, wrote-length}
+use Rattle.put.proofs.Laws.{join}
 use Rattle.put.specs.Digits.{digits-one, digits-more}
 use Prim.Native.Nat.{ℕ, _<_}
 use borrow.Fn.Kinds.{In}

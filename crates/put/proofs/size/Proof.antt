@@ -1,7 +1,6 @@
 use mathlib.Core.Path.{ap}
 use lib.IntN.{natAbs}
 use native.Mathlib.Omega.{arith}
-use borrow.Author.Needs.{needs}
 use Rattle.put.proofs.size.Statement.{statement}
 use Rattle.put.proofs.size.Tie as tie
 use Rattle.put.proofs.Signs.{up-fits, turned-fits, got, cast-ok, add-ok, size-neg, got-pos, pos-small}

@@ -3,7 +3,6 @@ use Rattle.put.proofs.Laws.{join, one, renum, wrote-length}
 use mir.Syntax.{w32}
 use Rattle.sexp.specs.Sexp.{onto}
 use Rattle.script.specs.Terms as term
-use borrow.Author.Needs.{needs}
 use Rattle.term.proofs.limits.Statement.{statement}
 use Rattle.term.proofs.limits.Tie as tie
 
