@@ -1,6 +1,6 @@
 -- Laws of a clause's part: what is said out of the record's bytes is what the meaning's clause says.
-use mathlib.Core.Path.{_≡_, refl, sym, ap, _∙_}
-use mathlib.Core.Bool.{Bool, true, false}
+use mathlib.Core.Path.{_≡_}
+use mathlib.Core.Bool.{Bool, false}
 use mathlib.Core.Logic.{_⊎_, inl, inr}
 use mathlib.Core.List.{List}
 use Prim.Native.Nat.{ℕ, _+_, _≤_, _<_}
@@ -11,7 +11,7 @@ use Rattle.cursor.specs.declared.Clause.{Clause}
 use Rattle.cursor.specs.Steps.{pick}
 use Rattle.cursor.specs.Sound.{Sound, Arguments}
 use Rattle.cursor.specs.Meaning.{atomIn, bodyIn}
-use Rattle.sexp.specs.Sexp.{Sexps, end, each, over, onto}
+use Rattle.sexp.specs.Sexp.{Sexps, each, over, onto}
 use Rattle.sexp.specs.Split.{over-part, over-front}
 use Rattle.put.specs.Room.{top}
 use Rattle.put.specs.Shows.{Lists}

@@ -1,7 +1,7 @@
 -- Laws of writing: what is written one after the other is its concatenation written.
 use mathlib.Core.Path.{_≡_, refl, sym, ap, _∙_}
 use mathlib.Core.List.{List, [], _∷_, _++_}
-use Prim.Native.Nat.{ℕ, zero, suc, _+_, _-_, _^_, _≤_, _<_}
+use Prim.Native.Nat.{ℕ, suc, _+_, _^_, _≤_, _<_}
 use native.Mathlib.Nat.{add-zero, zero-add, min-eq-left, min-eq-right, le-antisymm}
 use native.Mathlib.Omega.{arith}
 use native.Mathlib.Numerals.{add-one}
@@ -9,11 +9,11 @@ use native.Mathlib.Decide.{decLe}
 use lib.IntN.{ℤ}
 use lib.Signed.{mag}
 use mir.Syntax.{Width}
-use mir.Val.{SFits, hbits, toZ, ofZ}
+use mir.Val.{hbits, toZ, ofZ}
 use mir.Facts.{toZ-ofZ}
 use lib.ListN.{length, set, drop, length-set, length-append}
 use lib.Seq.{set-out, sets, sets-eq}
-use Rattle.sexp.specs.Sexp.{Sexp, Sexps, end, _&_, _&&_, onto, render, spaced, items, linesOnto, lines, each}
+use Rattle.sexp.specs.Sexp.{Sexp, Sexps, _&&_, onto, spaced, items, linesOnto, lines, each}
 use Rattle.sexp.specs.Split.{onto-split, spaced-split, spaced-and, lines-split, lines-and}
 use Rattle.put.specs.Room.{paste, sat, top, Wrote}
 use Rattle.put.specs.Number.{num}
@@ -105,12 +105,16 @@ module _ {d e f k : List ℕ} {at m r : ℕ} where
 pub more : {d e f : List ℕ} {xs : Sexps} {at m r : ℕ} (ys : Sexps) (k : List ℕ) → Lists d e at m xs → Wrote e f m r (spaced ys k) → Wrote d f at r (spaced (xs && ys) k)
 more ys k u v = rw spaced-and (all u v)
 
+-- lines, more of them, and then k
+pub more-rows : {d e f : List ℕ} {xs : Sexps} {at m r : ℕ} (ys : Sexps) (k : List ℕ) → Lines d e at m xs → Wrote e f m r (linesOnto ys k) → Wrote d f at r (linesOnto (xs && ys) k)
+more-rows ys k u v = rw lines-and (rows u v)
+
 module _ {d e f : List ℕ} {xs ys : Sexps} {at m r : ℕ} where
   pub both : Lists d e at m xs → Lists e f m r ys → Lists d f at r (xs && ys)
   both u v = record { text = more ys [] u (v .text) }
 
   pub both-lines : Lines d e at m xs → Lines e f m r ys → Lines d f at r (xs && ys)
-  both-lines u v = record { text = rw lines-and (rows u (v .text)) }
+  both-lines u v = record { text = more-rows ys [] u (v .text) }
 
 -- ---- a loop: no item, those of one turn more, and all of them
 module _ (f : ℕ → Sexps) where
@@ -148,6 +152,9 @@ module _ (f : ℕ → Sexps) where
 -- the same items, said otherwise
 pub relist : {d e : List ℕ} {xs ys : Sexps} {at r : ℕ} → xs ≡ ys → Lists d e at r xs → Lists d e at r ys
 relist p u = rw p at u
+
+pub reline : {d e : List ℕ} {xs ys : Sexps} {at r : ℕ} → xs ≡ ys → Lines d e at r xs → Lines d e at r ys
+reline p u = rw p at u
 
 -- the same S-expression, said otherwise
 pub reshow : {d e : List ℕ} {x y : Sexp} {at r : ℕ} → x ≡ y → Shows d e at r x → Shows d e at r y

@@ -2,7 +2,8 @@
 use mathlib.Core.Path.{_≡_, refl, sym, ap, _∙_}
 use mathlib.Core.List.{List, [], _∷_, _++_}
 use mathlib.Core.Bool.{Bool, true, false}
-use Prim.Native.Nat.{ℕ, zero, suc, _+_, _-_, _*_, _/_, _%_, _≤_, _<_}
+use Prim.Native.Nat.{ℕ, zero, suc, _+_, _-_, _*_, _/_, _%_, _^_, _≤_, _<_}
+use native.Mathlib.Nat.{pow-suc}
 use native.Mathlib.Omega.{arith}
 use native.Mathlib.Decide.{decLt}
 use lib.Dec.{ltb}
@@ -91,5 +92,12 @@ no-leading-zero = digits-by Leads
 
 -- ---- their number
 
-pub digits-size : (n : ℕ) → length (digits n) ≤ suc n
-digits-size = digits-by (λ n t. length t ≤ suc n) (λ n l. omega arith) (λ n t h e. omega (arith, length-append t ((n % 10 + 48) ∷ [])))
+-- a number below 10 ^ k has at most k digits, and at least one
+pub digits-size : (k n : ℕ) → n < 10 ^ suc k → length (digits n) ≤ suc k
+digits-size k n = digits-by (λ n t. (k : ℕ) → n < 10 ^ suc k → length t ≤ suc k) (λ n l k h. omega arith) more n k
+  where
+    more : (n : ℕ) (t : List ℕ) → 10 ≤ n → ((k : ℕ) → n / 10 < 10 ^ suc k → length t ≤ suc k) → (k : ℕ) → n < 10 ^ suc k → length (t ++ ((n % 10 + 48) ∷ [])) ≤ suc k
+    more n t h ih zero l = absurd (let z : ⊥ = omega arith in z)
+    more n t h ih (suc k) l =
+        let e : 10 ^ suc (suc k) ≡ 10 ^ suc k * 10 = pow-suc 10 (suc k) in
+        omega (arith, length-append t ((n % 10 + 48) ∷ []), ih k (omega arith))

@@ -3,3 +3,4 @@ pub mod Terms
 pub mod Lines
 pub mod Text
 pub mod Plain
+pub mod Size

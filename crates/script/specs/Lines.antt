@@ -24,9 +24,13 @@ define n sort x = list (w "define-fun" & word n & list end & w sort & x & end)
 abbrev pub noted : Sexp → String → Sexp → Sexp
 noted x key v = list (w "!" & x & w key & v & end)
 
--- a flag or place, what it is after a step, and the two together
+-- a flag or place with what it is after a step
+abbrev pub pairLine : String → List ℕ → Sexp
+pairLine sort n = define (pairName n) sort (noted (word n) ":next" (word (next n)))
+
+-- the three lines of a flag or place
 unfoldable pub stateLines : String → List ℕ → Sexps
-stateLines sort n = declare n sort & declare (next n) sort & define (pairName n) sort (noted (word n) ":next" (word (next n))) & end
+stateLines sort n = declare n sort & declare (next n) sort & pairLine sort n & end
 
 unfoldable pub placeLines : ℕ → ℕ → Sexps
 placeLines r i = stateLines "Int" (placeName r i)

@@ -3,7 +3,7 @@ use mathlib.Core.Path.{_≡_, refl}
 use mathlib.Core.List.{List, [], _∷_, _++_}
 use mathlib.Core.Option.{Option, none, some}
 use mathlib.Core.Bool.{Bool, true, false}
-use Prim.Native.Nat.{ℕ, suc, _+_, _%_, _≤_, _<_}
+use Prim.Native.Nat.{ℕ, suc, _+_, _%_, _<_}
 use native.Mathlib.Omega.{arith}
 use lib.Dec.{eqb}
 use lib.IntN.{ℤ, pos, negsuc}
@@ -12,7 +12,7 @@ use borrow.Author.Tests.{ne-eqb}
 use Rattle.meaning.specs.Constraint.{Sum, Constraint, truth, at-most, equal, not, and, or, remainder}
 use Rattle.meaning.specs.Book.{Atom, Clause, Book, Window, none-such, placeWindow, variableWindow}
 use Rattle.sexp.specs.Bytes.{bytes}
-use Rattle.sexp.specs.Sexp.{Sexp, Sexps, word, list, end, _&_, _&&_, each, over, w, lines}
+use Rattle.sexp.specs.Sexp.{list, end, each, over, lines}
 use Rattle.sexp.specs.Parse.{kindOf, isLetter, letters, isName, plain, plains, parse}
 use Rattle.sexp.specs.Back.{plains-and, plains-each, letters-append, parse-lines}
 use Rattle.put.specs.Digits.{digits, digits-by}

@@ -1,9 +1,8 @@
 -- Laws of printing a constraint: one for each way that the code goes.
 use mathlib.Core.Path.{_≡_, refl, sym, ap, _∙_}
-use mathlib.Core.List.{List, [], _∷_}
+use mathlib.Core.List.{List, _∷_}
 use Prim.Native.Nat.{ℕ, zero, suc, _-_}
 use native.Mathlib.Numerals.{sub-one}
-use native.Mathlib.Omega.{arith}
 use Rattle.meaning.specs.Constraint.{Constraint, truth, at-most, equal, not, and, or, remainder}
 use Rattle.cursor.specs.declared.Cursor.{Cursor}
 use Rattle.cursor.specs.declared.Refusal.{Refusal}
@@ -16,7 +15,7 @@ use Rattle.cursor.specs.declared.NodeStep.{NodeStep}
 use Rattle.cursor.specs.declared.NodeStep.the-variants.{Got, Refused}
 use Rattle.cursor.specs.Steps.{nodeThen, byteAt, nodeAt}
 use Rattle.cursor.specs.Tree as trees
-use Rattle.cursor.specs.Tree.{got, no, then, sumOf, grow, treeAt}
+use Rattle.cursor.specs.Tree.{got, then, sumOf, grow, treeAt}
 use Rattle.cursor.specs.Inverse.{byte-went, then-went, no-tree}
 use Rattle.cursor.specs.Sound.{IsTree}
 use Rattle.cursor.specs.Meaning.{treeOf, treeIn}
@@ -25,7 +24,7 @@ use Rattle.sexp.specs.Sexp.{word, list, end, _&_, onto}
 use Rattle.put.specs.Room.{Wrote}
 use Rattle.put.specs.Shows.{Shows}
 use Rattle.put.proofs.Laws.{join, one}
-use Rattle.script.specs.Terms.{constraint, compared, remains}
+use Rattle.script.specs.Terms.{constraint}
 use Rattle.term.specs.declared.Stand.{Stand}
 use Rattle.term.specs.Drawn.{comparedOf, remainsOf, Drawn, DrawnTwo}
 

@@ -1,7 +1,7 @@
 -- Laws of the names that the code hands on, and of printing a constraint.
 use mathlib.Core.Path.{_≡_, refl, sym, ap, _∙_}
 use mathlib.Core.Bool.{Bool, true, false}
-use mathlib.Core.List.{List, [], _∷_, _++_}
+use mathlib.Core.List.{List, _∷_, _++_}
 use Prim.Native.Nat.{ℕ, zero, suc, _+_, _*_, _^_, _≤_, _<_}
 use native.Mathlib.Omega.{arith}
 use lib.IntN.{ℤ, pos}
@@ -10,7 +10,7 @@ use lib.ListN.{length, getD}
 use mir.Syntax.{Width, w64}
 use mir.Val.{hbits, toZ, ofZ}
 use Rattle.whole.specs.Whole.{Signed, own}
-use Rattle.whole.specs.Bytes.{i16At, i32At}
+use Rattle.whole.specs.Bytes.{i16At}
 use Rattle.cursor.specs.declared.Atom.{Atom}
 use Rattle.cursor.specs.declared.Comparison.{Comparison}
 use Rattle.cursor.specs.declared.Comparison.the-variants.{AtMost, Equal}
@@ -23,7 +23,7 @@ use Rattle.put.specs.Room.{Wrote}
 use Rattle.put.specs.Digits.{digits}
 use Rattle.put.specs.Number.{num}
 use Rattle.put.specs.Shows.{Shows, Lists}
-use Rattle.put.proofs.Laws.{join, relist, reshow}
+use Rattle.put.proofs.Laws.{relist, reshow}
 use Rattle.script.specs.Names.{flagName, placeName, inputName, next, inState}
 use Rattle.script.specs.Terms.{product, sum, compared}
 use Rattle.term.specs.declared.Row.{Row}
@@ -74,13 +74,13 @@ module _ {w : Width} {x r : ℤ} {d e : List ℕ} {at m : ℕ} (h : mag r < 2 ^ 
 unfoldable pub productAt : List ℕ → ℕ → ℕ → ℕ → Sexps
 productAt s k p i = product k i (i16At s (p + i * 2))
 
-coefficient-at : (v : ℕ) (s : List ℕ) (p i : ℕ) → i < v → getD (coefficientsAt v s p) i (pos 0) ≡ i16At s (p + i * 2)
+pub coefficient-at : (v : ℕ) (s : List ℕ) (p i : ℕ) → i < v → getD (coefficientsAt v s p) i (pos 0) ≡ i16At s (p + i * 2)
 unfolding coefficientsAt
 coefficient-at zero s p i h = absurd (let z : ⊥ = omega arith in z)
 coefficient-at (suc v) s p zero h = ap (i16At s) (let z : p ≡ p + 0 * 2 = omega arith in z)
 coefficient-at (suc v) s p (suc i) h = coefficient-at v s (p + 2) i (omega arith) ∙ ap (i16At s) (let z : p + 2 + i * 2 ≡ p + suc i * 2 = omega arith in z)
 
-coefficients-count : (v : ℕ) (s : List ℕ) (p : ℕ) → length (coefficientsAt v s p) ≡ v
+pub coefficients-count : (v : ℕ) (s : List ℕ) (p : ℕ) → length (coefficientsAt v s p) ≡ v
 unfolding coefficientsAt
 coefficients-count zero s p = refl
 coefficients-count (suc v) s p = ap suc (coefficients-count v s (p + 2))

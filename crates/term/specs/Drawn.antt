@@ -3,7 +3,7 @@ use mathlib.Core.Path.{_≡_}
 use mathlib.Core.List.{List, [], _∷_}
 use Prim.Native.Nat.{ℕ}
 use Rattle.meaning.specs.Constraint.{Constraint}
-use Rattle.sexp.specs.Sexp.{Sexp, Sexps, end, _&_, spaced, w}
+use Rattle.sexp.specs.Sexp.{Sexp, end, _&_, spaced, w}
 use Rattle.cursor.specs.declared.Cursor.{Cursor}
 use Rattle.cursor.specs.declared.Comparison.{Comparison}
 use Rattle.cursor.specs.declared.Comparison.the-variants.{AtMost, Equal}
