@@ -4,3 +4,4 @@ pub mod Lines
 pub mod Text
 pub mod Plain
 pub mod Size
+pub mod Example

@@ -14,6 +14,11 @@ ghost use Rattle.script.specs.Names.{inState};
 ghost use Rattle.script.specs.Terms as term;
 ghost use Rattle.term.specs.Name.{itemName, nameOf, windowOf};
 ghost use Rattle.term.specs.Drawn.{zeroOf, comparedOf, remainsOf, Drawn, DrawnTwo};
+use cursor::Comparison;
+use cursor::Cursor;
+use cursor::Node;
+use cursor::NodeStep;
+use cursor::Remains;
 use put::decimal;
 use put::put;
 use put::put_all;
@@ -143,17 +148,17 @@ fn with_zero(room: &mut [u8], at: usize, s: &[u8], k: usize, v: usize, p: usize)
 }
 
 // A comparison of a sum with zero.
-fn compare(room: &mut [u8], at: usize, s: &[u8], k: usize, v: u8, n: cursor::Comparison) -> usize
+fn compare(room: &mut [u8], at: usize, s: &[u8], k: usize, v: u8, n: Comparison) -> usize
     requires { ⌜ CompareThere (now s) v n ⌝ }
     ensures { λ r. ⌜ Shows (now (room .entry)) (now (room .exit)) at r (comparedOf (now (s .entry)) k v n) ⌝ }
 {
     match n {
-        cursor::Comparison::AtMost(x) => {
+        Comparison::AtMost(x) => {
             let p = x.at;
             let a = put_all(room, at, b"(<=");
             with_zero(room, a, s, k, v as usize, p)
         }
-        cursor::Comparison::Equal(x) => {
+        Comparison::Equal(x) => {
             let p = x.at;
             let a = put_all(room, at, b"(=");
             with_zero(room, a, s, k, v as usize, p)
@@ -162,7 +167,7 @@ fn compare(room: &mut [u8], at: usize, s: &[u8], k: usize, v: u8, n: cursor::Com
 }
 
 // What a sum leaves.
-fn remains(room: &mut [u8], at: usize, s: &[u8], k: usize, v: u8, m: cursor::Remains) -> usize
+fn remains(room: &mut [u8], at: usize, s: &[u8], k: usize, v: u8, m: Remains) -> usize
     requires { ⌜ RemainsThere (now s) v m ⌝ }
     ensures { λ r. ⌜ Shows (now (room .entry)) (now (room .exit)) at r (remainsOf (now (s .entry)) k v m) ⌝ }
 {
@@ -181,52 +186,43 @@ fn remains(room: &mut [u8], at: usize, s: &[u8], k: usize, v: u8, m: cursor::Rem
 // Where printing stands, and where reading does.
 pub struct Stand {
     pub at: usize,
-    pub next: cursor::Cursor,
+    pub next: Cursor,
 }
 
 // The constraint at the cursor, of at most depth levels.
-fn tree(
-    room: &mut [u8],
-    at: usize,
-    s: &[u8],
-    k: usize,
-    v: u8,
-    c: cursor::Cursor,
-    depth: usize,
-) -> Stand
+fn tree(room: &mut [u8], at: usize, s: &[u8], k: usize, v: u8, c: Cursor, depth: usize) -> Stand
     ensures { λ r. ⌜ Drawn k (treeAt (now (s .entry)) v depth c) (now (room .entry)) (now (room .exit)) at r ⌝ }
 {
     if depth == 0 {
         return Stand { at: at, next: c };
     }
     match c.node(s, v) {
-        cursor::NodeStep::Refused(_) => Stand { at: at, next: c },
-        cursor::NodeStep::Got(n, next) => match n {
-            cursor::Node::True => {
+        NodeStep::Refused(_) => Stand { at: at, next: c },
+        NodeStep::Got(n, next) => match n {
+            Node::True => {
                 let a = put_all(room, at, b"true");
                 Stand { at: a, next: next }
             }
-            cursor::Node::Compare(x) => {
+            Node::Compare(x) => {
                 let a = compare(room, at, s, k, v, x);
                 Stand { at: a, next: next }
             }
-            cursor::Node::Remainder(m) => {
+            Node::Remainder(m) => {
                 let a = remains(room, at, s, k, v, m);
                 Stand { at: a, next: next }
             }
-            cursor::Node::Not => {
+            Node::Not => {
                 let a = put_all(room, at, b"(not ");
                 let p = tree(room, a, s, k, v, next, depth - 1);
-                let a = p.at;
                 let q = p.next;
-                let a = put(room, a, b')');
+                let a = put(room, p.at, b')');
                 Stand { at: a, next: q }
             }
-            cursor::Node::And => {
+            Node::And => {
                 let a = put_all(room, at, b"(and");
                 two(room, a, s, k, v, next, depth - 1)
             }
-            cursor::Node::Or => {
+            Node::Or => {
                 let a = put_all(room, at, b"(or");
                 two(room, a, s, k, v, next, depth - 1)
             }
@@ -235,15 +231,7 @@ fn tree(
 }
 
 // Two constraints, and the closing bracket.
-fn two(
-    room: &mut [u8],
-    at: usize,
-    s: &[u8],
-    k: usize,
-    v: u8,
-    c: cursor::Cursor,
-    depth: usize,
-) -> Stand
+fn two(room: &mut [u8], at: usize, s: &[u8], k: usize, v: u8, c: Cursor, depth: usize) -> Stand
     ensures { λ r. ⌜ DrawnTwo k (treeAt (now (s .entry)) v depth) c (now (room .entry)) (now (room .exit)) at r ⌝ }
 {
     let a = put(room, at, b' ');
@@ -263,7 +251,7 @@ pub fn constraint(room: &mut [u8], at: usize, s: &[u8], k: usize, v: u8, p: usiz
     requires { ⌜ IsTree (now s) v p ⌝ }
     ensures { λ r. ⌜ Shows (now (room .entry)) (now (room .exit)) at r (term.constraint k (treeIn (now (s .entry)) v p)) ⌝ }
 {
-    let c = cursor::Cursor { at: p, left: 64 };
+    let c = Cursor { at: p, left: 64 };
     let e = tree(room, at, s, k, v, c, 16);
     e.at
 }
