@@ -1,0 +1,41 @@
+-- A trace's steps by their places, as the walk over them finds them.
+use mathlib.Core.Path.{_≡_}
+use mathlib.Core.List.{List}
+use Prim.Native.Nat.{ℕ, _*_, _≤_, _<_}
+use lib.ListN.{length, getD}
+use lib.Dec.{eqb}
+use lib.IntN.{ℤ}
+use Rattle.meaning.specs.Book.{Book}
+use Rattle.meaning.specs.State.{flags}
+use Rattle.lists.specs.Trace as traces
+use Rattle.lists.specs.Places.{start}
+use Rattle.cursor.specs.Steps.{pick}
+use Rattle.book.specs.declared.Header.{Header}
+use Rattle.steps.specs.Walk.{Walk}
+use Rattle.book.specs.Meaning.{bookIn}
+use Rattle.back.specs.declared.Block.{Block}
+
+-- a trace whose states have z numbers
+pub record Trace (s : List ℕ) (h : Header) (l : List ℤ) (z : ℕ) : Type 0 where
+  pub walk : Walk s h l z z
+  pub size : z ≡ traces.size (bookIn s h) flags
+  pub few : length l ≤ 1000000
+
+-- how many numbers a body's derivation has, where each relation's are counted; 255 is no body
+unfoldable pub bodyCount : List ℕ → ℕ → ℕ
+bodyCount counts body = pick (eqb body 255) 0 (getD counts body 0)
+
+-- the starts of the steps from place i on, at most 512 of them, and the place after them
+pub record Filled (b : Book) (z : ℕ) (l : List ℤ) (i : ℕ) (block : List ℕ) (r : Block) : Type 0 where
+  pub long : length block ≡ 512
+  pub few : r .count ≤ 512
+  pub each : (k : ℕ) → k < r .count → (getD block k 0 ≡ start b z l i k) × (start b z l i k < length l)
+  pub next : r .next ≡ start b z l i (r .count)
+  pub full : r .count < 512 → length l ≤ r .next
+
+-- the start of every 512th step: r of them, and no step starts after them
+pub record Marked (b : Book) (z : ℕ) (l : List ℤ) (marks : List ℕ) (r : ℕ) : Type 0 where
+  pub long : length marks ≡ 1024
+  pub few : r ≤ 1024
+  pub each : (q : ℕ) → q < r → getD marks q 0 ≡ start b z l z (q * 512)
+  pub all : length l ≤ start b z l z (r * 512)

@@ -1,0 +1,39 @@
+use borrow.Author.Needs.{needs}
+use Rattle.meaning.specs.State.{flags}
+use Rattle.lists.specs.Convert.{asDerivation}
+use Rattle.book.specs.Meaning.{bookIn}
+use Rattle.convert.proofs.Laws.{trace-at, replies-needs, replies-wrote}
+use Rattle.convert.proofs.derived.Statement.{statement}
+use Rattle.convert.proofs.derived.Tie as tie
+
+size-requires : tie.Need-size-requires
+size-requires c κs = c .before .pre .0 .walk .good
+
+measure-requires : tie.Need-measure-requires
+measure-requires c κs = (trace-at (c .before .before .pre .0) (c .size .ensures .is), c .before .before .pre .1)
+
+returns : tie.Need-returns
+returns c =
+    let a = c .before .before .before .before .before .args in
+    rw (c .refuse .ensures) (replies-needs (asDerivation (bookIn (a .book .now) (a .h)) flags (a .relation) (a .list .now)) (a .room .now) (c .before .before .measure .result) (c .before .before .measure .ensures) (c .before .if1 .taken))
+
+write-requires : tie.Need-write-requires
+write-requires c κs = (trace-at (c .before .before .before .before .before .pre .0) (c .before .before .before .size .ensures .is), (c .before .before .before .before .before .pre .1, c .before .before .measure .ensures, c .before .if1 .left))
+
+returns-2 : tie.Need-returns-2
+returns-2 c =
+    let a = c .before .before .before .before .before .before .before .args in
+    replies-wrote (asDerivation (bookIn (a .book .now) (a .h)) flags (a .relation) (a .list .now)) (a .room .now) (c .before .before .before .before .measure .result) (c .before .before .before .before .measure .ensures) _ (c .before .before .before .if1 .left) (c .before .write .ensures)
+
+pub derived-spec : {M : Type 1} → statement M
+derived-spec =
+    tie.close
+    (tie.spec
+    size-requires
+    measure-requires
+    (λ c κs. search needs)
+    returns
+    (λ c. search needs)
+    write-requires
+    (λ c. search needs)
+    returns-2)
