@@ -1,14 +1,14 @@
 -- One clause after the other, and the ways to the whole reply.
-use Prim.Native.Nat.{ℕ, zero, suc, _+_, _<_, _≤_}
+use Prim.Native.Nat.{ℕ, suc, _+_, _<_, _≤_}
 use native.Mathlib.Numerals.{add-one}
 use native.Mathlib.Omega.{arith}
 use mathlib.Core.Path.{_≡_, refl, sym, ap, _∙_}
-use mathlib.Core.List.{List, [], _∷_, _++_}
+use mathlib.Core.List.{List, [], _∷_}
 use lib.ListN.{length, getD, take, drop, length-map, take-append-drop, drop-of-length-le}
 use lib.Seq.{take-suc, drop-cons}
 use Rattle.meaning.specs.Constraint.{Constraint}
 use Rattle.meaning.specs.Book as meant
-use Rattle.meaning.specs.Book.{Book, Step, variableWindow, none-such}
+use Rattle.meaning.specs.Book.{Book, variableWindow, none-such}
 use Rattle.cursor.specs.declared.Refusal.{Refusal}
 use Rattle.cursor.specs.Meaning.{clauseIn}
 use Rattle.book.specs.declared.Header.{Header}
@@ -17,7 +17,7 @@ use Rattle.book.specs.declared.Reading.the-variants as readings
 use Rattle.book.specs.declared.Reading.the-variants.{Good}
 use Rattle.book.specs.Read.{read}
 use Rattle.book.specs.Meaning.{bookIn}
-use Rattle.book.specs.Joined.{Held, count-is}
+use Rattle.book.specs.Joined.{count-is}
 use Rattle.facts.specs.Instance.{windows}
 use Rattle.facts.proofs.Windows.{variable-window}
 use Rattle.models.specs.Assignments.{assignments, count}

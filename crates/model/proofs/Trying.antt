@@ -2,28 +2,27 @@
 use Prim.Native.Nat.{ℕ, zero, suc, _+_, _-_, _<_, _≤_}
 use native.Mathlib.Numerals.{sub-one}
 use native.Mathlib.Omega.{arith}
-use mathlib.Core.Path.{_≡_, refl, sym, ap, _∙_}
+use mathlib.Core.Path.{_≡_, sym, _∙_}
 use mathlib.Core.Bool.{Bool, true, false}
-use mathlib.Core.List.{List, [], _∷_, _++_, map}
-use lib.ListN.{length, getD, take, drop, replicate, length-replicate, length-take, take-append-drop}
+use mathlib.Core.List.{List, _∷_, map}
+use lib.ListN.{length, getD, take, drop, replicate, take-append-drop}
 use lib.Seq.{length-take-le}
 use lib.IntN.{ℤ, pos}
 use Rattle.meaning.specs.Constraint.{Constraint}
-use Rattle.meaning.specs.Book.{Book, variableWindow, none-such}
+use Rattle.meaning.specs.Book.{Book, none-such}
 use Rattle.cursor.specs.Steps.{pick}
 use Rattle.cursor.specs.Meaning.{clauseIn}
 use Rattle.book.specs.declared.Header.{Header}
 use Rattle.book.specs.declared.Reading.the-variants.{Good}
 use Rattle.book.specs.Read.{read}
 use Rattle.book.specs.Meaning.{bookIn}
-use Rattle.book.specs.Joined.{Held}
 use Rattle.book.specs.Trailer.{read-trailed}
 use Rattle.facts.specs.Instance.{windows}
 use Rattle.facts.proofs.Windows.{variable-window}
 use Rattle.models.specs.Assignments.{assignments, count}
 use Rattle.models.specs.Odometer.{up, run, lows, up-length, up-drop, lows-length, lows-drop, walked}
 use Rattle.models.specs.Cap.{cap, cap-small}
-use Rattle.models.specs.Walk.{step, tries, breaks, broken, find}
+use Rattle.models.specs.Walk.{step, tries, breaks, find}
 use Rattle.models.specs.Answer.{Answer, plain, slots, outcome}
 use Rattle.parts.specs.declared.Task.{Task}
 use Rattle.parts.specs.Task.{breaksIn, Ready, Tasked, rulesIn}

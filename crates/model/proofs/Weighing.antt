@@ -6,14 +6,12 @@ use mathlib.Core.Logic.{⊎-elim}
 use mathlib.Core.Bool.{Bool, true, false}
 use mathlib.Core.List.{List, []}
 use lib.ListN.{length, getD, take}
-use lib.Dec.{ltb}
 use borrow.Author.Tests.{lt-ltb, le-ltb}
 use Rattle.whole.specs.Whole.{lt-or-le}
-use Rattle.meaning.specs.Constraint.{Constraint, holds}
+use Rattle.meaning.specs.Constraint.{holds}
 use Rattle.meaning.specs.Book.{Book}
 use Rattle.cursor.specs.declared.Cursor.{Cursor}
 use Rattle.cursor.specs.declared.Refusal.{Refusal}
-use Rattle.cursor.specs.declared.Step.{Step}
 use Rattle.cursor.specs.declared.Step.the-variants as steps
 use Rattle.cursor.specs.Steps.{pick}
 use Rattle.cursor.specs.Tree.{Got, got, no}

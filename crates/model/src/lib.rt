@@ -1,17 +1,16 @@
 // The model check: the bytes of a model against the bytes of a clause book.
 ghost use mathlib.Core.Path.{_≡_};
 ghost use Prim.Native.Nat.{_≤_, _<_};
-ghost use lib.ListN.{getD, take};
-ghost use Rattle.meaning.specs.Book.{none-such};
+ghost use lib.ListN.{take};
 ghost use Rattle.book.specs.Read.{read};
 ghost use Rattle.book.specs.Meaning.{bookIn};
 ghost use Rattle.book.specs.declared.Reading.the-variants.{Good};
 ghost use Rattle.facts.specs.Instance.{windows};
 ghost use Rattle.models.specs.Assignments.{count};
-ghost use Rattle.models.specs.Walk.{find, tries, walk, total};
-ghost use Rattle.models.specs.Answer.{plain, outcome, weighed};
-ghost use Rattle.parts.specs.Task.{Started, Tasked, rulesIn};
-ghost use Rattle.model.specs.Reply.{told, Replies, refusedBy, partsIn};
+ghost use Rattle.models.specs.Walk.{total};
+ghost use Rattle.models.specs.Answer.{plain};
+ghost use Rattle.parts.specs.Task.{Started, Tasked};
+ghost use Rattle.model.specs.Reply.{told, Replies, refusedBy, clauseAnswer, walkAnswer, weighedAnswer};
 
 // What the check answers: document 01's number and place, how many assignments were examined,
 // and of a broken instance its clause and values.
@@ -55,7 +54,7 @@ fn try_clause(
     requires { ⌜ read (now book) ≡ Good h ⌝ }
     requires { ⌜ Tasked (now book) h (now model) k t ⌝ }
     requires { ⌜ (before ≤ 1000000) × (count (windows h) (t .clause .variables) ≤ 1000000) ⌝ }
-    ensures { λ r. ⌜ told r ≡ outcome (find (bookIn (now (book .entry)) h) (rulesIn (now (model .entry)) (bookIn (now (book .entry)) h .arities)) before (tries (bookIn (now (book .entry)) h) k (getD (bookIn (now (book .entry)) h .clauses) k none-such))) ⌝ }
+    ensures { λ r. ⌜ told r ≡ clauseAnswer (now (book .entry)) h (now (model .entry)) k before ⌝ }
 {
     let start = h.start;
     let front = &book[..start];
@@ -86,7 +85,7 @@ fn try_all(book: &[u8], h: book::Header, model: &[u8], starts: [usize; 16]) -> R
     requires { ⌜ read (now book) ≡ Good h ⌝ }
     requires { ⌜ Started (now model) (take (h .relations) (now book)) starts ⌝ }
     requires { ⌜ total (bookIn (now book) h) ≤ 1000000 ⌝ }
-    ensures { λ r. ⌜ told r ≡ outcome (find (bookIn (now (book .entry)) h) (rulesIn (now (model .entry)) (bookIn (now (book .entry)) h .arities)) 0 (walk (bookIn (now (book .entry)) h))) ⌝ }
+    ensures { λ r. ⌜ told r ≡ walkAnswer (now (book .entry)) h (now (model .entry)) ⌝ }
 {
     let mut seen = 0;
     let mut k = 0;
@@ -106,7 +105,7 @@ fn try_all(book: &[u8], h: book::Header, model: &[u8], starts: [usize; 16]) -> R
 fn weigh(book: &[u8], h: book::Header, model: &[u8], starts: [usize; 16]) -> Reply
     requires { ⌜ read (now book) ≡ Good h ⌝ }
     requires { ⌜ Started (now model) (take (h .relations) (now book)) starts ⌝ }
-    ensures { λ r. ⌜ told r ≡ weighed (bookIn (now (book .entry)) h) (partsIn (now (model .entry)) (bookIn (now (book .entry)) h .arities)) ⌝ }
+    ensures { λ r. ⌜ told r ≡ weighedAnswer (now (book .entry)) h (now (model .entry)) ⌝ }
 {
     let q = wide(h.query);
     let at = starts[q];

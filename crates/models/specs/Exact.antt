@@ -3,31 +3,28 @@ use mathlib.Core.Path.{_≡_, refl, sym, ap, _∙_}
 use mathlib.Core.Logic.{_↔_, _⊎_, inl, inr}
 use mathlib.Core.Bool.{Bool, true, false, _&&_, not}
 use mathlib.Core.Option.{Option, none, some}
-use mathlib.Core.List.{List, [], _∷_, _++_, map}
-use Prim.Native.Nat.{ℕ, suc, _+_, _<_, _≤_}
+use mathlib.Core.List.{List, [], _∷_}
+use Prim.Native.Nat.{ℕ, suc, _<_, _≤_}
 use native.Mathlib.Omega.{arith}
 use lib.ListN.{length, getD, length-map, List·getD-map, List·getD-append}
 use lib.Seq.{getD-append-seam}
-use lib.Dec.{T}
 use lib.Ieee.Bits.{is-true}
-use borrow.Author.Tests.{ltb-true, ltb-false, lt-ltb, le-ltb}
+use borrow.Author.Tests.{ltb-true, ltb-false}
 use Rattle.meaning.specs.Constraint.{Constraint, truth, holds}
-use Rattle.meaning.specs.Book.{Book, Fact, Step, Instance, variableWindow, clauseOf, head, body, query, none-such}
+use Rattle.meaning.specs.Book.{Book, Fact, Step, Instance, clauseOf, head, body, query}
 use Rattle.meaning.specs.Limits.{Each, Limits}
 use Rattle.meaning.specs.Derivation.{Derivable}
 use Rattle.meaning.specs.System.{System, Reachable}
 use Rattle.meaning.specs.State.{Flagged}
-use Rattle.meaning.specs.Model.{All, Excludes, Satisfies, Model}
+use Rattle.meaning.specs.Model.{All, Satisfies, Model}
 use Rattle.meaning.specs.Laws.{Laws}
 use Rattle.meaning.specs.Main.{model-derivation, model-trace, flags-model-trace}
 use Rattle.meaning.specs.Wf.{each-at}
 use Rattle.cursor.specs.declared.Cursor.{Cursor}
-use Rattle.cursor.specs.declared.Refusal.{Refusal}
-use Rattle.cursor.specs.Steps.{pick}
-use Rattle.cursor.specs.Tree.{Got, got, no, then, treeAt}
+use Rattle.cursor.specs.Tree.{Got, got, no, then}
 use Rattle.cursor.specs.Inverse.{pick-by, no-tree, then-went}
 use Rattle.book.specs.Answer.{answer, accepted}
-use Rattle.models.specs.Read.{Part, rules, numberIn, inModel, ruleThen, fresh, partsAt, modelIn}
+use Rattle.models.specs.Read.{Part, rules, numberIn, inModel, ruleThen, partsAt, modelIn}
 use Rattle.models.specs.Walk.{Assignment, walk, total, position, satisfies, met, breaks, Finding, clean, broken, find}
 use Rattle.models.specs.Found.{Among, tried, position-walk, walk-total, Whole, First, find-clean, find-broken, walk-clean}
 use Rattle.models.specs.Answer.{Answer, plain, slots, outcome, no-part, weighed, judged, examine, inBook, modelAnswer}

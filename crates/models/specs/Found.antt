@@ -1,21 +1,21 @@
 -- Laws of the walk over all assignments: it has just them, each at its position, and what is found on it.
-use mathlib.Core.Path.{_≡_, refl, sym, ap, _∙_}
-use mathlib.Core.Bool.{Bool, true, false}
+use mathlib.Core.Path.{_≡_, refl, sym, ap}
+use mathlib.Core.Bool.{true, false}
 use mathlib.Core.Logic.{_↔_}
-use mathlib.Core.List.{List, [], _∷_, _++_, map, append-assoc, append-nil}
-use Prim.Native.Nat.{ℕ, zero, suc, _+_, _<_, _≤_}
+use mathlib.Core.List.{List, [], _∷_, _++_, map, append-assoc}
+use Prim.Native.Nat.{ℕ, zero, suc, _+_, _<_}
 use native.Mathlib.Omega.{arith}
-use lib.ListN.{length, getD, take, length-append, length-map}
+use lib.ListN.{length, getD, length-append, length-map}
 use lib.Seq.{take-length, take-at, getD-at}
 use lib.IntN.{ℤ}
 use Rattle.meaning.specs.Constraint.{Constraint}
-use Rattle.meaning.specs.Book.{Book, Clause, Step, Window, Within, variableWindow, clauseOf, none-such}
+use Rattle.meaning.specs.Book.{Book, Clause, Step, Window, Within, variableWindow, none-such}
 use Rattle.meaning.specs.Limits.{Each}
 use Rattle.cursor.specs.Steps.{pick}
 use Rattle.cursor.specs.Inverse.{pick-by, pick-else}
-use Rattle.models.specs.Assignments.{assignments, count, rank}
+use Rattle.models.specs.Assignments.{assignments, count}
 use Rattle.models.specs.Order.{map-append, Numbered, numbered-append, numbered-at, numbered-map, within-lie, lie-within, assignments-count, assignments-split, assignments-placed, prior, after, Placed}
-use Rattle.models.specs.Walk.{Assignment, step, tries, triesFrom, walk, sum, total, position, breaks, Finding, clean, broken, find, findThen}
+use Rattle.models.specs.Walk.{Assignment, step, tries, triesFrom, walk, sum, total, position, breaks, clean, broken, find, findThen}
 
 -- x stands in a list, with these before and after it
 pub record Among {A : Type 0} (x : A) (l : List A) : Type 0 where

@@ -1,15 +1,15 @@
 -- Where a value stands in its window, in natural numbers, which `omega` reads.
-use mathlib.Core.Path.{_≡_, refl, sym, ap, _∙_}
+use mathlib.Core.Path.{_≡_, refl, ap, _∙_}
 use mathlib.Core.Bool.{Bool, true, false, not}
 use Prim.Native.Nat.{ℕ, zero, suc, _+_, _-_, _<_, _≤_}
 use native.Mathlib.Omega.{arith}
 use native.Mathlib.Nat.{not-suc-le-zero}
 use mathlib.Core.Logic.{⊎-elim}
-use mathlib.Core.List.{List, [], _∷_, _++_}
+use mathlib.Core.List.{_∷_, _++_}
 use lib.ListN.{length}
 use lib.Dec.{T, le→leb, ltb→lt}
-use lib.IntN.{ℤ, pos, negsuc, negℤ, subℕ, _+ℤ_, _-ℤ_, +ℤ-assoc, +ℤ-comm, +ℤ-idl, +ℤ-idr, +ℤ-invr, +ℤ-one, sucℤ, negℤ-+ℤ, +ℤ-negℤ-cancel, -ℤ-+ℤ-cancel}
-use lib.Signed.{_≤ℤ_, _<ℤ_, ltZ, leZ, nonNeg, ltZ-no}
+use lib.IntN.{ℤ, pos, negsuc, negℤ, _+ℤ_, _-ℤ_, +ℤ-assoc, +ℤ-comm, +ℤ-idl, +ℤ-idr, +ℤ-invr, +ℤ-one, sucℤ, negℤ-+ℤ, +ℤ-negℤ-cancel, -ℤ-+ℤ-cancel}
+use lib.Signed.{_≤ℤ_, _<ℤ_, ltZ, nonNeg, ltZ-no}
 use Rattle.whole.specs.Whole.{sub-nonneg, lt-or-le, subℕ-lt, subℕ-ge}
 use Rattle.meaning.specs.Book.{Window, Inside}
 use Rattle.models.specs.Assignments.{natural, width, upFrom, values}

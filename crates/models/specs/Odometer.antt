@@ -1,11 +1,11 @@
 -- The odometer: from one assignment to the next in place. From the low ends on, it walks all assignments in order.
 use mathlib.Core.Path.{_≡_, refl, sym, ap, _∙_}
 use mathlib.Core.Logic.{_⊎_, inl, inr, ⊎-elim}
-use mathlib.Core.Bool.{Bool, true, false, not}
-use mathlib.Core.List.{List, [], _∷_, _++_, map, flatMap, append-assoc}
-use Prim.Native.Nat.{ℕ, zero, suc, _+_, _-_, _*_, _<_, _≤_}
+use mathlib.Core.Bool.{true, false, not}
+use mathlib.Core.List.{List, [], _∷_, flatMap}
+use Prim.Native.Nat.{ℕ, zero, suc, _+_, _-_, _<_, _≤_}
 use native.Mathlib.Omega.{arith}
-use lib.ListN.{length, getD, take, drop, set, length-append, length-set}
+use lib.ListN.{length, getD, take, drop, set, length-set}
 use lib.Seq.{take-suc, take-take, getD-take, getD-set-same, getD-set-other, take-set-le, take-suc-set, drop-set-lt}
 use lib.Dec.{T}
 use lib.IntN.{ℤ, pos, _+ℤ_, _-ℤ_, +ℤ-idr}
@@ -14,9 +14,9 @@ use Rattle.whole.specs.Whole.{lt-or-le}
 use Rattle.meaning.specs.Book.{Window, Inside}
 use Rattle.cursor.specs.Steps.{pick}
 use Rattle.cursor.specs.Inverse.{pick-by}
-use Rattle.models.specs.Assignments.{natural, width, upFrom, values, extend, assignments, count, rank}
-use Rattle.models.specs.Gaps.{more, gap, gap-next, no-gap, reach, above, next-le, Seat, seat, seat-width, seat-values, lowest, open-window}
-use Rattle.models.specs.Order.{Lie, grow, prior, after, prior-rank, assignments-split, assignments-count}
+use Rattle.models.specs.Assignments.{natural, upFrom, assignments, count, rank}
+use Rattle.models.specs.Gaps.{more, gap, gap-next, no-gap, reach, above, next-le, seat, seat-width, seat-values, lowest, open-window}
+use Rattle.models.specs.Order.{Lie, prior, after, prior-rank, assignments-split, assignments-count}
 
 empty : {A : Type 0} (l : List A) → length l ≡ 0 → l ≡ []
 empty [] e = refl

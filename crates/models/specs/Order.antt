@@ -1,17 +1,17 @@
 -- Laws of the order of assignments: how many there are, which lists they are, and how many come before each.
-use mathlib.Core.Path.{_≡_, refl, sym, ap, _∙_}
-use mathlib.Core.List.{List, [], _∷_, _++_, map, flatMap, append-assoc, append-nil}
+use mathlib.Core.Path.{_≡_, refl, ap, _∙_}
+use mathlib.Core.List.{List, [], _∷_, _++_, map, flatMap, append-assoc}
 use Prim.Native.Nat.{ℕ, zero, suc, _+_, _-_, _*_, _^_, _<_, _≤_}
 use native.Mathlib.Omega.{arith}
 use native.Mathlib.Nat.{pow-zero, pow-suc}
 use mathlib.Core.Logic.{⊎-elim}
 use Rattle.whole.specs.Whole.{lt-or-le}
 use lib.ListN.{length, getD, take, length-append, length-map, List·getD-append}
-use lib.Seq.{take-suc, getD-at, take-all}
+use lib.Seq.{take-suc, getD-at}
 use lib.IntN.{ℤ, pos, _+ℤ_, _-ℤ_, +ℤ-idr}
 use Rattle.meaning.specs.Book.{Window, Inside, Within}
 use Rattle.models.specs.Assignments.{natural, width, upFrom, values, extend, assignments, count, rank}
-use Rattle.models.specs.Gaps.{more, gap, Seat, seat, seat-below, seat-over, seat-values, upFrom-length, value-inside}
+use Rattle.models.specs.Gaps.{more, gap, seat, seat-below, seat-over, seat-values, upFrom-length, value-inside}
 
 -- ---- lists
 

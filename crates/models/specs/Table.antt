@@ -12,6 +12,7 @@ use Rattle.cursor.specs.Walk.{follow, constraintAt}
 use Rattle.cursor.specs.Clause.{argumentsAt, factAt, bodyAt, clauseThen, partsAt, clauseAt}
 use Rattle.cursor.specs.Tree.{coefficientsAt, sumOf, then, grow, treeAt}
 use Rattle.cursor.specs.Meaning.{atomIn, bodyIn, treeOf, treeIn, clauseIn, clauseOr}
+use Rattle.book.specs.Example.{bookB}
 use Rattle.book.specs.Read.{sized, headed, trailer, readingThen, topArity, arityAt, aritiesAt, recordAt, clausesAt, read, entryAt}
 use Rattle.book.specs.Meaning.{upTo, clauseNumber, bookIn}
 use Rattle.book.specs.Answer.{told, answer}
@@ -20,15 +21,6 @@ use Rattle.models.specs.Read.{numberIn, inModel, ruleThen, modelIn}
 use Rattle.models.specs.Assignments.{natural, width, upFrom, assignments, count, rank}
 use Rattle.models.specs.Walk.{triesFrom, walk, sum, total, position, satisfies, met, breaks, find}
 use Rattle.models.specs.Answer.{plain, slots, outcome, weighed, judged, examine, inBook, modelAnswer}
-
-abbrev pub bookB : List ℕ
-bookB =
-    1 ∷ 0 ∷
-    1 ∷ 255 ∷ 0 ∷ 0 ∷ 2 ∷ 1 ∷ 0 ∷ 0 ∷ 0 ∷ 0 ∷ 0 ∷
-    2 ∷ 0 ∷ 0 ∷ 0 ∷ 1 ∷ 2 ∷ 1 ∷ 0 ∷ 255 ∷ 255 ∷ 1 ∷ 0 ∷ 0 ∷ 0 ∷
-    1 ∷ 0 ∷ 0 ∷ 1 ∷ 2 ∷ 1 ∷ 0 ∷ 253 ∷ 255 ∷ 255 ∷ 255 ∷
-    2 ∷ 0 ∷ 13 ∷ 0 ∷ 27 ∷ 0 ∷
-    0 ∷ 0 ∷ 0 ∷ 0 ∷ 3 ∷ 0 ∷ 0 ∷ 0 ∷ 38 ∷ 0 ∷ 3 ∷ 0 ∷ 2 ∷ 1 ∷ 1 ∷ 0 ∷ []
 
 -- true for the relation with a place, not true for the query
 abbrev pub modelB : List ℕ

@@ -1,15 +1,14 @@
 -- A window's width, as the machine works it out in 64 bits.
-use mathlib.Core.Path.{_≡_, refl, sym, ap, _∙_}
-use Prim.Native.Nat.{ℕ, suc, _+_, _^_, _<_, _≤_}
+use mathlib.Core.Path.{_≡_, sym, ap, _∙_}
+use Prim.Native.Nat.{_+_, _≤_}
 use native.Mathlib.Omega.{arith}
 use lib.Dec.{T}
 use lib.IntN.{ℤ, pos, natAbs, _+ℤ_, _-ℤ_}
-use lib.Signed.{_≤ℤ_, nonNeg, pos-natAbs}
+use lib.Signed.{_≤ℤ_, nonNeg}
 use mir.Syntax.{w32, w64}
 use mir.Val.{SFits, Fits, toZ, ofZ}
 use mir.Facts.{toZ-ofZ, sfits-widen}
 use Rattle.whole.specs.Whole.{Sized, sfits-is, param, kept, lit, sized--, sized-+, sized-fits, unsigned, unsigned-is, sub-nonneg}
-use Rattle.meaning.specs.Book.{Window}
 use Rattle.models.specs.Assignments.{natural, width}
 use Rattle.models.specs.Gaps.{natural-pos, lowest, seat-width}
 

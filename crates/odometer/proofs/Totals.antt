@@ -1,14 +1,13 @@
 -- The assignments of one clause more.
-use mathlib.Core.Path.{_≡_, refl, sym, ap, _∙_}
-use mathlib.Core.List.{List, [], _∷_, _++_}
-use Prim.Native.Nat.{ℕ, suc, _+_, _<_, _≤_}
+use mathlib.Core.Path.{_≡_, sym, ap, _∙_}
+use mathlib.Core.List.{List, [], _∷_}
+use Prim.Native.Nat.{ℕ, _+_, _<_, _≤_}
 use native.Mathlib.Numerals.{add-one}
 use native.Mathlib.Omega.{arith}
-use lib.ListN.{length, getD, take}
+use lib.ListN.{getD, take}
 use lib.Seq.{take-suc, take-all}
 use lib.Signed.{_≤ℤ_}
-use Rattle.meaning.specs.Book as meant
-use Rattle.meaning.specs.Book.{Book, variableWindow, none-such}
+use Rattle.meaning.specs.Book.{Book, none-such}
 use Rattle.cursor.specs.declared.Clause.{Clause}
 use Rattle.cursor.specs.Meaning.{clauseIn}
 use Rattle.book.specs.declared.Header.{Header}

@@ -1,5 +1,5 @@
 -- Storing the low ends, and one turn of the odometer.
-use mathlib.Core.Path.{_≡_, refl, sym, ap, _∙_}
+use mathlib.Core.Path.{_≡_, _∙_}
 use mathlib.Core.Bool.{Bool, true, false}
 use Prim.Native.Nat.{ℕ, zero, suc, _+_, _-_, _^_, _<_, _≤_}
 use native.Mathlib.Numerals.{add-one, sub-one}
@@ -7,11 +7,11 @@ use native.Mathlib.Omega.{arith}
 use mathlib.Core.List.{List}
 use lib.ListN.{getD, set}
 use lib.IntN.{ℤ, pos, _+ℤ_}
-use lib.Signed.{mag, ltZ, _<ℤ_}
+use lib.Signed.{mag, ltZ}
 use mir.Syntax.{w32}
 use mir.Val.{SFits, hbits, toZ, ofZ}
 use mir.Facts.{toZ-ofZ}
-use Rattle.whole.specs.Whole.{own, fits-next, sfits-is, back}
+use Rattle.whole.specs.Whole.{own, fits-next}
 use Rattle.meaning.specs.Book.{Window}
 use Rattle.cursor.specs.Steps.{pick}
 use Rattle.book.specs.declared.Header.{Header}

@@ -1,38 +1,34 @@
 -- A task put together from an accepted book and a model that was read is that clause's, and what the code tests is whether the model is broken.
-use Prim.Native.Nat.{ℕ, zero, suc, _+_, _<_, _≤_}
+use Prim.Native.Nat.{ℕ, suc, _+_, _<_, _≤_}
 use native.Mathlib.Omega.{arith}
 use mathlib.Core.Path.{_≡_, refl, sym, ap, ap₂, _∙_}
 use mathlib.Core.Logic.{_⊎_, inl, inr}
-use mathlib.Core.Bool.{Bool, true, false, not, _&&_}
-use mathlib.Core.Option.{Option, none, some}
+use mathlib.Core.Bool.{Bool, true, false, _&&_}
 use mathlib.Core.List.{List, [], _∷_, map}
-use lib.ListN.{length, getD, take, drop, replicate, length-take, length-drop, List·getD-map}
+use lib.ListN.{length, getD, take, drop, replicate, length-take, List·getD-map}
 use lib.Seq.{getD-take, getD-drop, length-take-le}
 use lib.Dec.{eqb}
 use lib.IntN.{ℤ, pos}
-use borrow.Author.Tests.{lt-ltb, eqb-true, eqb-false}
-use Rattle.meaning.specs.Constraint.{Constraint, truth, holds}
-use Rattle.meaning.specs.Book as meant
-use Rattle.meaning.specs.Book.{at, atBody, head, body, clauseOf, none-such}
-use Rattle.cursor.specs.declared.Cursor.{Cursor}
+use borrow.Author.Tests.{lt-ltb, eqb-false}
+use Rattle.meaning.specs.Constraint.{truth, holds}
+use Rattle.meaning.specs.Book.{at, atBody, head, body}
 use Rattle.cursor.specs.declared.Clause.{Clause}
 use Rattle.cursor.specs.Steps.{pick, valueThen}
 use Rattle.cursor.specs.Tree.{got}
 use Rattle.cursor.specs.Inverse.{pick-by}
 use Rattle.cursor.specs.Meaning.{atomIn, bodyIn, treeIn, clauseIn}
-use Rattle.cursor.specs.Sound.{Sound, Arguments, IsTree}
+use Rattle.cursor.specs.Sound.{Sound, Arguments}
 use Rattle.book.specs.declared.Header.{Header}
 use Rattle.book.specs.declared.Reading.the-variants.{Good}
 use Rattle.book.specs.Read.{read, topArity}
 use Rattle.book.specs.Meaning.{bookIn}
-use Rattle.book.specs.Joined.{Held, passed}
+use Rattle.book.specs.Joined.{passed}
 use Rattle.book.specs.Trailer.{read-trailed}
 use Rattle.encode.specs.WrittenRecords.{arities-read}
-use Rattle.models.specs.Read.{Part, rules, modelIn, rulesOf}
+use Rattle.models.specs.Read.{Part, modelIn, rulesOf}
 use Rattle.models.specs.Walk.{step, satisfies, met, breaks}
 use Rattle.models.specs.Answer.{no-part}
 use Rattle.models.specs.Passed.{IsPart, parts-start, pass-moved}
-use Rattle.parts.specs.declared.Half.{Half}
 use Rattle.parts.specs.declared.Task.{Task}
 use Rattle.parts.specs.Task.{placesOf, metIn, headIn, breaksIn, Side, Ready, halfOf, Taken, Tasked, Started, rulesIn}
 

@@ -1,16 +1,14 @@
 // A model's parts: where its constraints stand, and one assignment of a clause against them.
 ghost use mathlib.Core.Path.{_≡_};
-ghost use Prim.Native.Nat.{ℕ, _+_, _≤_, _<_};
-ghost use mathlib.Core.List.{List, []};
-ghost use lib.ListN.{length, getD, take, replicate};
+ghost use Prim.Native.Nat.{_+_, _≤_, _<_};
+ghost use mathlib.Core.List.{[]};
+ghost use lib.ListN.{length, take};
 ghost use Rattle.meaning.specs.Constraint.{holds};
-ghost use Rattle.cursor.specs.Sound.{Arguments, IsTree};
+ghost use Rattle.cursor.specs.Sound.{Arguments};
 ghost use Rattle.cursor.specs.Meaning.{treeIn};
-ghost use Rattle.cursor.specs.declared.Step.the-variants.{Moved};
 ghost use Rattle.book.specs.Read.{read};
-ghost use Rattle.book.specs.Meaning.{bookIn};
 ghost use Rattle.book.specs.declared.Reading.the-variants.{Good};
-ghost use Rattle.models.specs.Read.{numberIn, ruleAt, passAt, startsAt};
+ghost use Rattle.models.specs.Read.{numberIn, ruleAt, passAt};
 ghost use Rattle.parts.specs.Task.{placesOf, metIn, breaksIn, Side, Ready, Scanned, Taken, halfOf};
 
 // Where each relation's constraint starts in the model, and where the model ends, or the refusal.

@@ -6,8 +6,8 @@ use lib.ListN.{take}
 use borrow.Author.Needs.{needs}
 use Rattle.cursor.proofs.Laws.{via}
 use Rattle.book.specs.Meaning.{bookIn}
-use Rattle.models.specs.Walk.{find, walk, sum}
-use Rattle.models.specs.Answer.{outcome}
+use Rattle.models.specs.Walk.{sum}
+use Rattle.model.specs.Reply.{walkAnswer}
 use Rattle.parts.specs.Task.{rulesIn}
 use Rattle.model.proofs.Clauses.{rest, rest-all, asked-task, asked-count, all-stop, all-more, all-seen, all-none, all-small}
 use Rattle.model.proofs.try_all.Statement.{statement}
@@ -16,7 +16,7 @@ use Rattle.model.proofs.try_all.Tie as tie
 abbrev Inv-loop : tie.InvT-loop
 Inv-loop book h model starts seen₀ k₀ seen k =
     (k ≤ h .count) × (seen ≡ sum (bookIn book h) (take k (bookIn book h .clauses)))
-    × (rest (bookIn book h) (rulesIn model (bookIn book h .arities)) seen k ≡ outcome (find (bookIn book h) (rulesIn model (bookIn book h .arities)) 0 (walk (bookIn book h))))
+    × (rest (bookIn book h) (rulesIn model (bookIn book h .arities)) seen k ≡ walkAnswer book h model)
 
 abbrev μ-loop : tie.MeasureT-loop
 μ-loop book h model starts seen₀ k₀ seen k = h .count - k

@@ -2,12 +2,9 @@ use borrow.Author.Needs.{needs}
 use Prim.Native.Nat.{_+_, _≤_}
 use native.Mathlib.Omega.{arith}
 use mathlib.Core.Path.{_≡_, sym, _∙_}
-use lib.ListN.{getD}
-use Rattle.meaning.specs.Book.{none-such}
 use Rattle.cursor.proofs.Laws.{via}
-use Rattle.models.specs.Walk.{find, tries}
-use Rattle.models.specs.Answer.{outcome}
-use Rattle.model.proofs.Trying.{front-start, ready-at, Padded, padded-first, padded-next, b, m, due, due-first, due-broken, due-next, due-none}
+use Rattle.model.specs.Reply.{clauseAnswer}
+use Rattle.model.proofs.Trying.{front-start, ready-at, Padded, padded-first, padded-next, due, due-first, due-broken, due-next, due-none}
 use Rattle.odometer.proofs.Laws.{capped-small}
 use Rattle.odometer.proofs.Totals.{window-open}
 use Rattle.model.proofs.try_clause.Statement.{statement}
@@ -16,7 +13,7 @@ use Rattle.model.proofs.try_clause.Tie as tie
 abbrev Inv-loop : tie.InvT-loop
 Inv-loop book h k t model before start front n left₀ values₀ seen₀ left values seen =
     (seen + left ≤ 2000001) × Padded n values
-    × (due book h model k n left values seen ≡ outcome (find (b book h model k) (m book h model k) before (tries (b book h model k) k (getD (b book h model k .clauses) k none-such))))
+    × (due book h model k n left values seen ≡ clauseAnswer book h model k before)
 
 abbrev μ-loop : tie.MeasureT-loop
 μ-loop book h k t model before start front n left₀ values₀ seen₀ left values seen = left

@@ -1,7 +1,6 @@
 use Prim.Native.Nat.{_≤_, _-_}
 use mathlib.Core.Path.{_≡_, refl, sym, _∙_}
 use native.Mathlib.Omega.{arith}
-use lib.IntN.{pos}
 use Rattle.facts.specs.Instance.{windows}
 use Rattle.models.specs.Odometer.{up}
 use Rattle.odometer.proofs.Turns.{turn-fits, turn-up, turn-back, turn-none}

@@ -1,4 +1,3 @@
-use borrow.Author.Needs.{needs}
 use Rattle.cursor.proofs.Laws.{ways}
 use Rattle.parts.specs.Task.{metIn}
 use Rattle.parts.proofs.met_at.Statement.{statement}
