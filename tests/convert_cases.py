@@ -1,6 +1,6 @@
-"""The cases of the two conversions, for a program that runs them.
+"""The cases of the two conversions, for the program crates/convert_cases.
 
-  python3 tests/convert_cases.py           write stdin and stdout of the cases
+  python3 tests/convert_cases.py           write crates/convert_cases/stdin and crates/convert_cases/stdout
   python3 tests/convert_cases.py --check   write nothing; self-test the reference, and compare the stored files
   python3 tests/convert_cases.py --list    print each case: line of stdout, name, lengths, goal, expected line
 
@@ -23,7 +23,7 @@ from book_cases import B, LEAST, MOST, SMALL, TRUE, assemble, changed, eq, recor
 from list_cases import (COPY, D, DERIVATION, FLAGS, LOOP, MILLION, PAIRS, T, WIDE, Grower, book_of, expand, listed,
                         pieces_of, replaced, spelled, u32, wide_steps)
 
-FOLDER = pathlib.Path(__file__).resolve().parent / 'data' / 'convert_cases'
+FOLDER = pathlib.Path(__file__).resolve().parent.parent / 'crates' / 'convert_cases'
 
 TO_TRACE, TO_DERIVATION = 1, 2          # the calls
 SMALLER, LARGER = 500000, MILLION + 1   # numbers of the two buffers
@@ -480,9 +480,8 @@ def main(words):
         path = FOLDER / name
         if words == ['--check']:
             same = path.exists() and path.read_bytes() == wanted
-            results.append((f'{FOLDER.name}/{name} is what is made', same))
+            results.append((f'crates/convert_cases/{name} is what is made', same))
         else:
-            path.parent.mkdir(parents=True, exist_ok=True)
             path.write_bytes(wanted)
     print(f'{len(made)} cases, {len(stdin)} bytes')
     for n in range(21):

@@ -1098,7 +1098,6 @@ def main(words):
             same = path.exists() and path.read_bytes() == wanted
             results.append((f'crates/list_cases/{name} is what is made', same))
         else:
-            path.parent.mkdir(exist_ok=True)
             path.write_bytes(wanted)
     print(f'{len(made)} cases, {len(stdin)} bytes')
     for n in given(TRACE):
