@@ -1,1 +1,3 @@
 pub mod Reply
+pub mod Calls
+pub mod Cases

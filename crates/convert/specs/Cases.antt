@@ -1,0 +1,54 @@
+-- Document 01's cases of the conversions, by computation.
+use Prim.Native.Nat.{ℕ}
+use mathlib.Core.Path.{_≡_, refl}
+use mathlib.Core.List.{List, [], _++_}
+use lib.ListN.{take, replicate}
+use lib.IntN.{ℤ, pos}
+use Rattle.whole.specs.Bytes.{u16At, u32At, i16At, i32At}
+use Rattle.meaning.specs.Constraint.{plus, is0, leaves, holds}
+use Rattle.meaning.specs.Book.{placeWindow, variableWindow, head, body}
+use Rattle.meaning.specs.System.{back, lastWriters}
+use Rattle.cursor.specs.Steps.{pick, kinds, valueThen, byteThen, numberThen, stepThen, nodeThen, byteAt, belowAt, relationAt, variableAt, skipAt, numberAt, kindAt, sumAt, remainsAt, nodeAt}
+use Rattle.cursor.specs.Walk.{follow, constraintAt}
+use Rattle.cursor.specs.Clause.{argumentsAt, factAt, bodyAt, clauseThen, partsAt, clauseAt}
+use Rattle.cursor.specs.Tree.{coefficientsAt, sumOf, then, grow, treeAt}
+use Rattle.cursor.specs.Meaning.{atomIn, bodyIn, treeOf, treeIn, clauseIn, clauseOr}
+use Rattle.book.specs.Read.{sized, headed, trailer, readingThen, topArity, arityAt, aritiesAt, recordAt, clausesAt, read, entryAt}
+use Rattle.book.specs.Meaning.{upTo, bookIn}
+use Rattle.book.specs.Meaning as books
+use Rattle.book.specs.Answer as answers
+use Rattle.lists.specs.Answer.{need, andThen}
+use Rattle.lists.specs.Compare.{eqZ, eqVals, same, inside, allIn, firstOut, firstDiff}
+use Rattle.lists.specs.Instance.{clauseNumber, judgeClause, judge}
+use Rattle.lists.specs.Derivation.{numbers, judgeStep, checkFrom, check, judgeGoal, judgeLength, checkDerivation}
+use Rattle.lists.specs.Trace.{flat, sum, cut, allRows, firstOutRows, stateNumbers, size, moveNumbers, traceNumbers, has, meets, judgeMove, walkFrom, firstOf, judgeFirst, checkWalk, checkTrace}
+use Rattle.lists.specs.Convert.{Reply, stepsFrom, derivationSteps, traceSteps, asTrace, asDerivation, written, toTrace, toDerivation}
+use Rattle.facts.specs.Example.{bookB, listD}
+use Rattle.trace.specs.Cases.{listT}
+use Rattle.convert.specs.Reply.{replyOf}
+use Rattle.convert.specs.Calls.{toTraceIn, toDerivationIn}
+
+-- the replies on book B for the goal relation 1, which has no places
+abbrev over : List ℤ → List ℤ → Reply
+over l room = replyOf (answers.answer bookB) (toTraceIn 1 [] l room) room
+
+abbrev return : List ℤ → List ℤ → Reply
+return l room = replyOf (answers.answer bookB) (toDerivationIn 1 [] l room) room
+
+-- a room of n numbers
+abbrev room : ℕ → List ℤ
+room n = replicate n (pos 7)
+
+abbrev reply : ℕ → ℕ → List ℤ → Reply
+reply n p r = record { number = n; place = p; room = r }
+
+-- D becomes its trace of 31 numbers, and what lies behind keeps its numbers; room 30 is 9 at 31; and the way back
+pub cases : (over listD (room 33) ≡ reply 0 31 (listT ++ room 2))
+    × (over listD (room 31) ≡ reply 0 31 listT)
+    × (over listD (room 30) ≡ reply 9 31 (room 30))
+    × (over (take 11 listD) (room 31) ≡ reply 17 11 (room 31))
+    × (return listT (room 14) ≡ reply 0 13 (listD ++ room 1))
+    × (return listT (room 12) ≡ reply 9 13 (room 12))
+    × (return (take 30 listT) (room 13) ≡ reply 13 26 (room 13))
+unfolding plus is0 leaves holds placeWindow variableWindow head body u16At u32At i16At i32At pick kinds valueThen byteThen numberThen stepThen nodeThen byteAt belowAt relationAt variableAt skipAt numberAt kindAt sumAt remainsAt nodeAt follow constraintAt argumentsAt factAt bodyAt clauseThen partsAt clauseAt coefficientsAt sumOf then grow treeAt atomIn bodyIn treeOf treeIn clauseIn clauseOr sized headed trailer readingThen topArity arityAt aritiesAt recordAt clausesAt read entryAt upTo bookIn books.clauseNumber answers.answer answers.told need andThen eqZ eqVals inside allIn firstOut firstDiff clauseNumber judgeClause judge judgeGoal judgeLength flat sum cut allRows firstOutRows stateNumbers size has meets judgeMove walkFrom firstOf judgeFirst checkWalk checkTrace numbers judgeStep checkFrom check checkDerivation same moveNumbers traceNumbers back lastWriters stepsFrom derivationSteps traceSteps asTrace asDerivation written toTrace toDerivation replyOf
+cases = (refl, refl, refl, refl, refl, refl, refl)
