@@ -3,3 +3,4 @@ pub mod Meaning
 pub mod Answer
 pub mod Joined
 pub mod Trailer
+pub mod Example

@@ -23,7 +23,8 @@ use Rattle.lists.specs.Instance.{clauseNumber, judgeClause, judge}
 use Rattle.lists.specs.Derivation.{numbers, judgeStep, checkFrom, check, judgeGoal, judgeLength, checkDerivation}
 use Rattle.lists.specs.Trace.{flat, sum, cut, allRows, firstOutRows, stateNumbers, size, moveNumbers, traceNumbers, has, meets, judgeMove, walkFrom, firstOf, judgeFirst, checkWalk, checkTrace}
 use Rattle.lists.specs.Convert.{Reply, stepsFrom, derivationSteps, traceSteps, asTrace, asDerivation, written, toTrace, toDerivation}
-use Rattle.facts.specs.Example.{bookB, listD}
+use Rattle.book.specs.Example.{bookB}
+use Rattle.facts.specs.Example.{listD}
 use Rattle.trace.specs.Cases.{listT}
 use Rattle.convert.specs.Reply.{replyOf}
 use Rattle.convert.specs.Calls.{toTraceIn, toDerivationIn}

@@ -9,7 +9,7 @@ use Rattle.cursor.specs.Walk.{follow, constraintAt}
 use Rattle.cursor.specs.Clause.{argumentsAt, factAt, bodyAt, clauseThen, partsAt, clauseAt}
 use Rattle.book.specs.Read.{sized, headed, trailer, readingThen, topArity, arityAt, aritiesAt, recordAt, clausesAt, read, entryAt, partAt, constraintOf}
 use Rattle.book.specs.Answer.{told, answer, number, place}
-use Rattle.demands.specs.BookB.{bookB}
+use Rattle.book.specs.Example.{bookB}
 
 -- a book's number and place
 abbrev reply : List ℕ → ℕ × ℕ

@@ -22,7 +22,8 @@ use Rattle.lists.specs.Compare.{eqZ, eqVals, same, inside, allIn, firstOut}
 use Rattle.lists.specs.Instance.{clauseNumber, judgeClause, judge}
 use Rattle.lists.specs.Derivation.{judgeStep, checkFrom, check, judgeGoal, judgeLength, checkDerivation}
 use Rattle.facts.specs.Answer.{afterBook, onBook}
-use Rattle.facts.specs.Example.{bookB, listD}
+use Rattle.book.specs.Example.{bookB}
+use Rattle.facts.specs.Example.{listD}
 use Rattle.derivation.specs.Answer.{answer}
 
 -- one variable, remainder with d = 3 and r = 2

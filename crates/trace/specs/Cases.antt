@@ -21,7 +21,7 @@ use Rattle.lists.specs.Instance.{clauseNumber, judgeClause, judge}
 use Rattle.lists.specs.Derivation.{judgeGoal, judgeLength}
 use Rattle.lists.specs.Trace.{flat, sum, cut, allRows, firstOutRows, stateNumbers, size, has, meets, judgeMove, walkFrom, firstOf, judgeFirst, checkWalk, checkTrace}
 use Rattle.facts.specs.Answer.{afterBook, onBook}
-use Rattle.facts.specs.Example.{bookB}
+use Rattle.book.specs.Example.{bookB}
 use Rattle.trace.specs.Answer.{answer}
 
 -- the trace of derivation D: 31 numbers

@@ -1,0 +1,155 @@
+-- One clause after the other, and the ways to the whole reply.
+use Prim.Native.Nat.{ℕ, suc, _+_, _<_, _≤_}
+use native.Mathlib.Numerals.{add-one}
+use native.Mathlib.Omega.{arith}
+use mathlib.Core.Path.{_≡_, refl, sym, ap, _∙_}
+use mathlib.Core.List.{List, [], _∷_}
+use lib.ListN.{length, getD, take, drop, length-map, take-append-drop, drop-of-length-le}
+use lib.Seq.{take-suc, drop-cons}
+use Rattle.meaning.specs.Constraint.{Constraint}
+use Rattle.meaning.specs.Book as meant
+use Rattle.meaning.specs.Book.{Book, variableWindow, none-such}
+use Rattle.cursor.specs.declared.Refusal.{Refusal}
+use Rattle.cursor.specs.Meaning.{clauseIn}
+use Rattle.book.specs.declared.Header.{Header}
+use Rattle.book.specs.declared.Reading.{Reading}
+use Rattle.book.specs.declared.Reading.the-variants as readings
+use Rattle.book.specs.declared.Reading.the-variants.{Good}
+use Rattle.book.specs.Read.{read}
+use Rattle.book.specs.Meaning.{bookIn}
+use Rattle.book.specs.Joined.{count-is}
+use Rattle.facts.specs.Instance.{windows}
+use Rattle.facts.proofs.Windows.{variable-window}
+use Rattle.models.specs.Assignments.{assignments, count}
+use Rattle.models.specs.Order.{assignments-count}
+use Rattle.models.specs.Walk.{step, tries, triesFrom, walk, sum, total, Finding, clean, broken, find, findThen}
+use Rattle.models.specs.Found.{sum-append, find-clean, find-append}
+use Rattle.models.specs.Answer.{Answer, plain, outcome}
+use Rattle.parts.specs.declared.Task.{Task}
+use Rattle.parts.specs.Task.{Taken, Started, Tasked, rulesIn}
+use Rattle.parts.proofs.Tasks as tasks
+use Rattle.model.specs.declared.Reply.{Reply}
+use Rattle.model.specs.Reply.{told, refusedBy}
+
+-- ---- a refused book
+
+pub refused-good : (y : Reading) {h : Header} {x : Answer} → y ≡ readings.Good h → x ≡ plain 0 0 0 → x ≡ refusedBy y
+unfolding refusedBy
+refused-good y e q = rw e q
+
+pub refused-own : (y : Reading) {f : Refusal} {x : Answer} → y ≡ readings.Refused f → x ≡ plain (f .number) (f .place) 0 → x ≡ refusedBy y
+unfolding refusedBy
+refused-own y e q = rw e q
+
+pub ruleset refusals = (refused-good, refused-own)
+
+-- ---- one stretch after another
+
+module _ (r : Reply) (go : ℕ → Finding) where
+  pub stretch-stop : (f : Finding) → told r ≡ outcome f → r .number ≡ 25 → told r ≡ outcome (findThen f go)
+  unfolding outcome findThen
+  stretch-stop (clean n) e t = absurd (let z : r .number ≡ 0 = ap (λ (a : Answer). a .number) e in let q : ⊥ = omega arith in q)
+  stretch-stop (broken n s) e t = e
+
+  pub stretch-more : (f : Finding) → told r ≡ outcome f → (r .number ≡ 25 → ⊥) → outcome (go (r .count)) ≡ outcome (findThen f go)
+  unfolding outcome findThen
+  stretch-more (clean n) e t = let z : r .count ≡ n = ap (λ (a : Answer). a .count) e in rw z
+  stretch-more (broken n s) e t = absurd (t (ap (λ (a : Answer). a .number) e))
+
+pub stretch-clean : (r : Reply) (f : Finding) → told r ≡ outcome f → (r .number ≡ 25 → ⊥) → f ≡ clean (r .count)
+unfolding outcome
+stretch-clean r (clean n) e t = let z : r .count ≡ n = ap (λ (a : Answer). a .count) e in rw z
+stretch-clean r (broken n s) e t = absurd (t (ap (λ (a : Answer). a .number) e))
+
+-- ---- the clauses
+
+module _ (b : Book) (m : List Constraint) where
+  -- what is due from clause k on
+  unfoldable pub rest : ℕ → ℕ → Answer
+  rest seen k = outcome (find b m seen (triesFrom b k (drop k (b .clauses))))
+
+  pub rest-all : rest 0 0 ≡ outcome (find b m 0 (walk b))
+  unfolding rest walk
+  rest-all = refl
+
+  pub rest-none : (seen k : ℕ) → length (b .clauses) ≤ k → rest seen k ≡ plain 0 0 seen
+  unfolding rest triesFrom find outcome
+  rest-none seen k h = rw (drop-of-length-le (b .clauses) h)
+
+  module _ (seen k : ℕ) (h : k < length (b .clauses)) where
+    abbrev c : meant.Clause
+    c = getD (b .clauses) k none-such
+
+    abbrev here : Finding
+    here = find b m seen (tries b k c)
+
+    split : rest seen k ≡ outcome (findThen here (λ n. find b m n (triesFrom b (k + 1) (drop (k + 1) (b .clauses)))))
+    unfolding rest triesFrom
+    split = rw (drop-cons (b .clauses) k none-such h, add-one k, find-append b m seen (tries b k c) (triesFrom b (suc k) (drop (suc k) (b .clauses))))
+
+    module _ (r : Reply) (e : told r ≡ outcome here) where
+      pub rest-stop : r .number ≡ 25 → told r ≡ rest seen k
+      rest-stop t = stretch-stop r _ here e t ∙ sym split
+
+      pub rest-more : (r .number ≡ 25 → ⊥) → rest (r .count) (k + 1) ≡ rest seen k
+      unfolding rest
+      rest-more t = stretch-more r _ here e t ∙ sym split
+
+      pub seen-more : (r .number ≡ 25 → ⊥) → seen ≡ sum b (take k (b .clauses)) → r .count ≡ sum b (take (k + 1) (b .clauses))
+      unfolding sum
+      seen-more t q =
+          let x = find-clean b m seen (tries b k c) (r .count) (stretch-clean r here e t) .0 in
+          let w = variableWindow b c in
+          rw (add-one k, take-suc (b .clauses) k none-such h)
+          (omega (arith, x, q, sum-append b (take k (b .clauses)) (c ∷ []), length-map (assignments w (c .vars)) (step k), assignments-count w (c .vars)))
+
+  -- a part is no more than all
+  pub seen-small : (k : ℕ) → sum b (take k (b .clauses)) ≤ total b
+  unfolding total
+  seen-small k = omega (arith, rw (take-append-drop k (b .clauses)) at (sum-append b (take k (b .clauses)) (drop k (b .clauses))))
+
+  pub clause-small : (k : ℕ) → k < length (b .clauses) → count (variableWindow b (getD (b .clauses) k none-such)) (getD (b .clauses) k none-such .vars) ≤ total b
+  unfolding total sum
+  clause-small k h =
+      let x = rw (take-append-drop k (b .clauses)) at (sum-append b (take k (b .clauses)) (drop k (b .clauses))) in
+      omega (arith, x, ap (sum b) (drop-cons (b .clauses) k none-such h))
+
+-- ---- what trying a clause asks
+
+module _ (s : List ℕ) (h : Header) (t l : List ℕ) (k : ℕ) (task : Task) (good : read s ≡ Good h) where
+  pub asked-task : Started t (take (h .relations) s) l → Taken s h k l task → Tasked s h t k task
+  asked-task st w = tasks.tasked s h good t l st k task w
+
+  pub asked-count : k < h .count → Taken s h k l task → total (bookIn s h) ≤ 1000000 → count (windows h) (task .clause .variables) ≤ 1000000
+  unfolding clauseIn
+  asked-count b w few =
+      let x = clause-small (bookIn s h) [] k (omega (arith, count-is s h good)) in
+      let y = rw (w .held .is, variable-window s h (clauseIn (take (h .start) s) (task .clause))) at x in
+      omega (arith, y)
+
+-- the same of an accepted book, where the code's tests are of the header's count
+module _ (s : List ℕ) (h : Header) (t : List ℕ) (good : read s ≡ Good h) where
+  abbrev b : Book
+  b = bookIn s h
+
+  abbrev m : List Constraint
+  m = rulesIn t (bookIn s h .arities)
+
+  there : (k : ℕ) → k < h .count → k < length (b .clauses)
+  there k l = omega (arith, count-is s h good)
+
+  module _ (seen k : ℕ) (r : Reply) (e : told r ≡ outcome (find b m seen (tries b k (getD (b .clauses) k none-such)))) where
+    pub all-stop : k < h .count → r .number ≡ 25 → told r ≡ rest b m seen k
+    all-stop l q = rest-stop b m seen k (there k l) r e q
+
+    pub all-more : k < h .count → (r .number ≡ 25 → ⊥) → rest b m (r .count) (k + 1) ≡ rest b m seen k
+    all-more l q = rest-more b m seen k (there k l) r e q
+
+    pub all-seen : k < h .count → (r .number ≡ 25 → ⊥) → seen ≡ sum b (take k (b .clauses)) → r .count ≡ sum b (take (k + 1) (b .clauses))
+    all-seen l q z = seen-more b m seen k (there k l) r e q z
+
+  pub all-none : (seen k : ℕ) {x : Answer} → h .count ≤ k → x ≡ plain 0 0 seen → x ≡ rest b m seen k
+  all-none seen k l q = q ∙ sym (rest-none b m seen k (omega (arith, count-is s h good)))
+
+  pub all-small : (seen k : ℕ) → seen ≡ sum b (take k (b .clauses)) → total b ≤ 1000000 → seen ≤ 1000000
+  all-small seen k e l = omega (arith, seen-small b m k)

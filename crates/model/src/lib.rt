@@ -1,0 +1,147 @@
+// The model check: the bytes of a model against the bytes of a clause book.
+ghost use mathlib.Core.Path.{_≡_};
+ghost use Prim.Native.Nat.{_≤_, _<_};
+ghost use lib.ListN.{take};
+ghost use Rattle.book.specs.Read.{read};
+ghost use Rattle.book.specs.Meaning.{bookIn};
+ghost use Rattle.book.specs.declared.Reading.the-variants.{Good};
+ghost use Rattle.facts.specs.Instance.{windows};
+ghost use Rattle.models.specs.Assignments.{count};
+ghost use Rattle.models.specs.Walk.{total};
+ghost use Rattle.models.specs.Answer.{plain};
+ghost use Rattle.parts.specs.Task.{Started, Tasked};
+ghost use Rattle.model.specs.Reply.{told, Replies, refusedBy, clauseAnswer, walkAnswer, weighedAnswer};
+
+// What the check answers: document 01's number and place, how many assignments were examined,
+// and of a broken instance its clause and values.
+pub struct Reply {
+    pub number: u8,
+    pub place: usize,
+    pub count: usize,
+    pub clause: usize,
+    pub values: [i32; 16],
+}
+
+// any reply but 25: clause and values are 0
+fn simply(number: u8, place: usize, examined: usize) -> Reply
+    ensures { λ r. ⌜ told r ≡ plain number place examined ⌝ }
+{
+    let values = [0i32; 16];
+    Reply {
+        number: number,
+        place: place,
+        count: examined,
+        clause: 0,
+        values: values,
+    }
+}
+
+fn wide(x: u8) -> usize
+    ensures { λ r. ⌜ r ≡ x ⌝ }
+{
+    x as usize
+}
+
+// each assignment of clause k in order, where `before` assignments were examined before them
+fn try_clause(
+    book: &[u8],
+    h: book::Header,
+    k: usize,
+    t: parts::Task,
+    model: &[u8],
+    before: usize,
+) -> Reply
+    requires { ⌜ read (now book) ≡ Good h ⌝ }
+    requires { ⌜ Tasked (now book) h (now model) k t ⌝ }
+    requires { ⌜ (before ≤ 1000000) × (count (windows h) (t .clause .variables) ≤ 1000000) ⌝ }
+    ensures { λ r. ⌜ told r ≡ clauseAnswer (now (book .entry)) h (now (model .entry)) k before ⌝ }
+{
+    let start = h.start;
+    let front = &book[..start];
+    let l = t.clause;
+    let n = wide(l.variables);
+    let mut left = odometer::count_of(h, l.variables);
+    let mut values = odometer::first_of(h, n);
+    let mut seen = before;
+    while 0 < left {
+        seen += 1;
+        if parts::breaks_at(front, t, &values, model) {
+            return Reply {
+                number: 25,
+                place: seen,
+                count: seen,
+                clause: k,
+                values: values,
+            };
+        }
+        values = odometer::next_of(values, h, n);
+        left -= 1;
+    }
+    simply(0, 0, seen)
+}
+
+// all clauses in order
+fn try_all(book: &[u8], h: book::Header, model: &[u8], starts: [usize; 16]) -> Reply
+    requires { ⌜ read (now book) ≡ Good h ⌝ }
+    requires { ⌜ Started (now model) (take (h .relations) (now book)) starts ⌝ }
+    requires { ⌜ total (bookIn (now book) h) ≤ 1000000 ⌝ }
+    ensures { λ r. ⌜ told r ≡ walkAnswer (now (book .entry)) h (now (model .entry)) ⌝ }
+{
+    let mut seen = 0;
+    let mut k = 0;
+    while k < h.count {
+        let t = parts::task_of(book, h, k, starts);
+        let r = try_clause(book, h, k, t, model, seen);
+        if r.number == 25 {
+            return r;
+        }
+        seen = r.count;
+        k += 1;
+    }
+    simply(0, 0, seen)
+}
+
+// the query's constraint, the number of assignments, and all clauses
+fn weigh(book: &[u8], h: book::Header, model: &[u8], starts: [usize; 16]) -> Reply
+    requires { ⌜ read (now book) ≡ Good h ⌝ }
+    requires { ⌜ Started (now model) (take (h .relations) (now book)) starts ⌝ }
+    ensures { λ r. ⌜ told r ≡ weighedAnswer (now (book .entry)) h (now (model .entry)) ⌝ }
+{
+    let q = wide(h.query);
+    let at = starts[q];
+    let none = [0i32; 16];
+    if truth::truth(model, at, 0, &none, 0) {
+        return simply(23, at, 0);
+    }
+    if 1000000 < odometer::total_of(book, h) {
+        return simply(24, 0, 0);
+    }
+    try_all(book, h, model, starts)
+}
+
+// a refused book's own refusal
+fn refused_by(b: book::Reading) -> Reply
+    ensures { λ r. ⌜ told r ≡ refusedBy b ⌝ }
+{
+    match b {
+        book::Reading::Good(_) => simply(0, 0, 0),
+        book::Reading::Refused(r) => simply(r.number, r.place, 0),
+    }
+}
+
+// Checks a model: the reply for any book and model bytes.
+pub fn check(book: &[u8], model: &[u8]) -> Reply
+    ensures { λ r. ⌜ Replies (now (book .entry)) (now (model .entry)) r ⌝ }
+{
+    let read = book::read_book(book);
+    let book::Reading::Good(h) = read else {
+        return refused_by(read);
+    };
+    let scan = parts::read_model(model, book, h.relations);
+    let starts = scan.starts;
+    let end = scan.end;
+    match end {
+        cursor::Step::Refused(r) => simply(r.number, r.place, 0),
+        cursor::Step::Moved(_) => weigh(book, h, model, starts),
+    }
+}

@@ -1,0 +1,14 @@
+pub mod Read
+pub mod Assignments
+pub mod Walk
+pub mod Answer
+pub mod Gaps
+pub mod Order
+pub mod Found
+pub mod Exact
+pub mod Written
+pub mod Odometer
+pub mod Cap
+pub mod Passed
+pub mod Main
+pub mod Table

@@ -1,0 +1,1 @@
+// What the model check answers, and why it is right: definitions and theorems in specs/, and no code.

@@ -1,0 +1,4 @@
+pub mod Room
+pub mod Digits
+pub mod Number
+pub mod Shows

@@ -1,0 +1,3 @@
+pub mod Sort
+pub mod Reply
+pub mod Text
