@@ -6,14 +6,14 @@ use Rattle.models.specs.Odometer.{up}
 use Rattle.odometer.proofs.Turns.{turn-fits, turn-up, turn-back, turn-none}
 use Rattle.cursor.proofs.Laws.{via}
 use borrow.Author.Needs.{needs}
-use Rattle.odometer.proofs.next_of.Statement.{statement}
-use Rattle.odometer.proofs.next_of.Tie as tie
+use Rattle.odometer.proofs.advance.Statement.{statement}
+use Rattle.odometer.proofs.advance.Tie as tie
 
 abbrev Inv-loop : tie.InvT-loop
-Inv-loop h n vs₀ i₀ vs i = (i ≤ 16) × (up (windows h) i vs ≡ up (windows h) i₀ vs₀)
+Inv-loop values₀ h n i₀ values i = (i ≤ 16) × (up (windows h) i values ≡ up (windows h) i₀ values₀)
 
 abbrev μ-loop : tie.MeasureT-loop
-μ-loop h n vs₀ i₀ vs i = i
+μ-loop values₀ h n i₀ values i = i
 
 loop-holds : tie.Need-loop-holds Inv-loop μ-loop
 loop-holds c = (omega arith, refl)
@@ -30,8 +30,8 @@ loop-again c = (omega arith, search (via, turn-back))
 returns-2 : tie.Need-returns-2 Inv-loop μ-loop
 returns-2 c = sym (turn-none _ _ _ (omega arith)) ∙ c .before .loop .inv .1
 
-pub next-of-spec : {M : Type 1} → statement M
-next-of-spec =
+pub advance-spec : {M : Type 1} → statement M
+advance-spec =
     tie.close
     (tie.spec
     Inv-loop
