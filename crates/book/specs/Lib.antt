@@ -2,5 +2,6 @@ pub mod Read
 pub mod Meaning
 pub mod Answer
 pub mod Joined
+pub mod Laid
 pub mod Trailer
 pub mod Example

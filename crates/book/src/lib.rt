@@ -6,6 +6,7 @@ ghost use Rattle.book.specs.Read.{topArity, arityAt, aritiesAt, recordAt
 ghost use Rattle.whole.specs.Bytes.{u16At, i32At};
 ghost use Rattle.book.specs.Answer.{Answers};
 ghost use Rattle.book.specs.Joined.{Held};
+ghost use Rattle.book.specs.Laid.{pastArguments, recordOf, Room};
 ghost use Rattle.book.specs.declared.Reading.the-variants.{Good};
 
 // What the trailer says: the window, where the index starts, how many clauses and relations there are, and the query relation.
@@ -296,23 +297,49 @@ pub fn constraint_of(book: &[u8], k: usize) -> &[u8]
     }
 }
 
+fn wide(x: u8) -> usize
+    ensures { λ r. ⌜ (r ≡ x) × (r < 256) ⌝ }
+{
+    x as usize
+}
+
+// the place past the arguments of the relation r, whose number stands at p; 255 has none
+fn past(book: &[u8], p: usize, r: u8) -> usize
+    requires { ⌜ p < length (now book) ⌝ }
+    requires { ⌜ ((r ≡ 255 → ⊥) → r < length (now book)) ⌝ }
+    ensures { λ q. ⌜ q ≡ pastArguments (now (book .entry)) p r ⌝ }
+{
+    if r == 255 {
+        p + 1
+    } else {
+        p + 1 + wide(book[r as usize])
+    }
+}
+
+// the record that begins at p, with nothing judged again
+fn laid(book: &[u8], p: usize) -> cursor::Clause
+    requires { ⌜ Room (now book) p ⌝ }
+    ensures { λ r. ⌜ r ≡ recordOf (now (book .entry)) p ⌝ }
+{
+    let body = book[p + 1];
+    let seat = past(book, p + 1, body);
+    let head = book[seat];
+    cursor::Clause {
+        variables: book[p],
+        body: body,
+        body_at: p + 1,
+        head: head,
+        head_at: seat,
+        rule: past(book, seat, head),
+    }
+}
+
 // The record of clause k of a book that was accepted with the header h: it is that clause of the meaning's book.
 pub fn record(book: &[u8], h: Header, k: usize) -> cursor::Clause
     requires { ⌜ read (now book) ≡ Good h ⌝ }
     requires { ⌜ k < h .count ⌝ }
     ensures { λ r. ⌜ Held (now (book .entry)) h k r ⌝ }
 {
-    let start = h.start;
-    let cursor::ClauseStep::Got(l, _) = entry(book, start, k).parts(&book[..start], h.relations)
-    else {
-        return cursor::Clause {
-            variables: 0,
-            body: 255,
-            body_at: 0,
-            head: 0,
-            head_at: 0,
-            rule: 0,
-        };
-    };
-    l
+    let c = entry(book, h.start, k);
+    laid(book, c.at)
 }
