@@ -94,22 +94,6 @@ module _ {r q : ℕ} where
     values = ap (λ (y : Answer). y .values) (w .tells);
   }
 
-pub ruleset tellings = (
-  book-good,
-  book-refused,
-  check-accepted,
-  check-refused,
-  conversion-wrote,
-  conversion-refused,
-  text-written,
-  text-short,
-  text-refused,
-  checked,
-  converted,
-  printed,
-  weighed,
-)
-
 -- ---- where a constraint stands
 
 module _ (s : List ℕ) (k : ℕ) {p : Span} (e : p ≡ spanOf s k) where

@@ -1,16 +1,15 @@
 -- What each exported function promises: the number that it returns, and what it writes through its pointers, in document 01's numbers.
 -- In all of them r is the number returned and q the place written.
-use Prim.Native.Nat.{ℕ, _-_}
-use mathlib.Core.Path.{_≡_, sym, ap, _∙_}
+use Prim.Native.Nat.{ℕ}
+use mathlib.Core.Path.{_≡_, sym, _∙_}
 use mathlib.Core.List.{List}
-use lib.ListN.{length, take, drop}
+use lib.ListN.{length}
 use lib.IntN.{ℤ}
-use Rattle.meaning.specs.Book.{Book}
 use Rattle.lists.specs.Answer as lists
 use Rattle.lists.specs.Convert.{Reply}
 use Rattle.book.specs.Answer as books
 use Rattle.book.specs.Read.{constraintOf}
-use Rattle.book.specs.Span.{spanOf, span-of, spans-length}
+use Rattle.book.specs.Span.{spanOf}
 use Rattle.derivation.specs.Answer as derivation
 use Rattle.trace.specs.Answer as trace
 use Rattle.convert.specs.declared.Converted.{Converted}
@@ -103,7 +102,3 @@ one-weighed t u = (
 
 pub one-handed : {s : List ℕ} {k r q r′ q′ : ℕ} → Hands s k r q → Hands s k r′ q′ → (r ≡ r′) × (q ≡ q′)
 one-handed u v = (u .long ∙ sym (v .long), u .start ∙ sym (v .start))
-
--- the part of the book that is handed out is the constraint
-pub handed-part : {s : List ℕ} {k r q : ℕ} → Hands s k r q → take r (drop q s) ≡ constraintOf s k
-handed-part {s} {k} u = let w = span-of s k in rw (u .long ∙ sym (spans-length w), u .start) (w .part)
