@@ -65,7 +65,14 @@ fn books() {
 
 #[test]
 fn constraints() {
-    let rows = [(B.to_vec(), 0, 6, 7), (B.to_vec(), 1, 18, 9), (B.to_vec(), 2, 31, 7), (B.to_vec(), 3, 0, 0), (B.to_vec(), 1 << 63, 0, 0), (with(58, 2), 0, 0, 0)];
+    let rows = [
+        (B.to_vec(), 0, 6, 7),
+        (B.to_vec(), 1, 18, 9),
+        (B.to_vec(), 2, 31, 7),
+        (B.to_vec(), 3, 0, 0),
+        (B.to_vec(), 1 << 63, 0, 0),
+        (with(58, 2), 0, 0, 0),
+    ];
     for (i, (book, clause, start, length)) in rows.iter().enumerate() {
         assert_eq!(kit::constraint(book, *clause), Part { start: *start, length: *length }, "row {i}");
     }
@@ -74,7 +81,8 @@ fn constraints() {
 #[test]
 fn lists() {
     type Check = fn(&[u8], &[i32], u64, &[i32]) -> Answer;
-    let rows: [(Check, Vec<u8>, Vec<i32>, u64, u32, u64); 10] = [
+    type Row = (Check, Vec<u8>, Vec<i32>, u64, u32, u64);
+    let rows: [Row; 10] = [
         (kit::derivation, B.to_vec(), D.to_vec(), 1, 0, 0),
         (kit::derivation, B.to_vec(), D[..11].to_vec(), 1, 17, 11),
         (kit::derivation, B.to_vec(), vec![0, 0, 1, 1, 2], 1, 16, 2),
@@ -102,7 +110,8 @@ fn goal_values() {
 #[test]
 fn conversions() {
     type Convert = fn(&[u8], &[i32], u64, &[i32], &mut [i32]) -> Answer;
-    let rows: [(Convert, Vec<u8>, &[i32], usize, u32, u64, &[i32]); 8] = [
+    type Row<'a> = (Convert, Vec<u8>, &'a [i32], usize, u32, u64, &'a [i32]);
+    let rows: [Row; 8] = [
         (kit::to_trace, B.to_vec(), &D, 31, 0, 31, &T),
         (kit::to_trace, B.to_vec(), &D, 40, 0, 31, &T),
         (kit::to_trace, B.to_vec(), &D, 30, 9, 31, &[]),
@@ -123,8 +132,14 @@ fn conversions() {
 fn texts() {
     let text = SMALL_TEXT.as_bytes();
     let n = text.len();
-    let rows: [(&[u8], usize, u32, usize, &[u8]); 5] =
-        [(&SMALL, n, 0, n, text), (&SMALL, n + 9, 0, n, text), (&SMALL, n - 1, 9, n, &[]), (&SMALL, 0, 9, n, &[]), (&[], n, 1, 0, &[])];
+    type Row<'a> = (&'a [u8], usize, u32, usize, &'a [u8]);
+    let rows: [Row; 5] = [
+        (&SMALL, n, 0, n, text),
+        (&SMALL, n + 9, 0, n, text),
+        (&SMALL, n - 1, 9, n, &[]),
+        (&SMALL, 0, 9, n, &[]),
+        (&[], n, 1, 0, &[]),
+    ];
     for (i, (book, size, number, place, written)) in rows.iter().enumerate() {
         let mut room = vec![b'~'; *size];
         assert_eq!(kit::text(book, &mut room), answer(*number, *place as u64), "row {i}");
@@ -133,11 +148,22 @@ fn texts() {
 }
 
 #[test]
+fn part_of_clause_0() {
+    let part = "(and true (<= 0 y0_0) (<= y0_0 3) (= (+ 0 0 (* 1 y0_0)) 0) l0n (= p0_0n y0_0) (= l1n l1))";
+    let mut room = vec![0; 65_536];
+    let Answer { number, place } = kit::text(&B, &mut room);
+    let text = String::from_utf8_lossy(&room[..place as usize]);
+    assert_eq!(number, 0);
+    assert_eq!(text.matches(part).count(), 1, "{text}");
+}
+
+#[test]
 fn models() {
     let mut three = [0; 16];
     three[0] = 3;
     let none = [0; 16];
-    let rows: [(Vec<u8>, &[u8], u32, u64, u64, u64, [i32; 16]); 5] = [
+    type Row<'a> = (Vec<u8>, &'a [u8], u32, u64, u64, u64, [i32; 16]);
+    let rows: [Row; 5] = [
         (B.to_vec(), &[0, 3, 0], 25, 24, 24, 2, three),
         (with(HI, 2), &[0, 3, 0], 0, 0, 15, 0, none),
         (B.to_vec(), &[0, 0], 23, 1, 0, 0, none),
