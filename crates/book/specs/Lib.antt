@@ -1,4 +1,5 @@
 pub mod Read
+pub mod Span
 pub mod Meaning
 pub mod Answer
 pub mod Joined

@@ -2,7 +2,8 @@
 ghost use mathlib.Core.Path.{_≡_};
 ghost use Prim.Native.Nat.{_+_, _*_, _≤_, _<_};
 ghost use lib.ListN.{length};
-ghost use Rattle.book.specs.Read.{topArity, arityAt, aritiesAt, recordAt, clausesAt, headed, sized, trailer, read, entryAt, partAt, constraintOf};
+ghost use Rattle.book.specs.Read.{topArity, arityAt, aritiesAt, recordAt, clausesAt, headed, sized, trailer, read, entryAt, constraintOf};
+ghost use Rattle.book.specs.Span.{absent, spanAt, spanOf};
 ghost use Rattle.whole.specs.Bytes.{u16At, i32At};
 ghost use Rattle.book.specs.Answer.{Answers};
 ghost use Rattle.book.specs.Joined.{Held};
@@ -23,6 +24,12 @@ pub struct Header {
 pub enum Reading {
     Good(Header),
     Refused(cursor::Refusal),
+}
+
+// A part of a book: from byte `start` up to, and without, byte `end`.
+pub struct Span {
+    pub start: usize,
+    pub end: usize,
 }
 
 impl Header {
@@ -266,19 +273,40 @@ fn entry(book: &[u8], start: usize, k: usize) -> cursor::Cursor
     }
 }
 
-// the constraint of the record at c, as the very part of the book that holds it
-fn part_at(book: &[u8], c: cursor::Cursor, start: usize, n: u8) -> &[u8]
+// no part of the book: 0 and 0
+fn nowhere() -> Span
+    ensures { λ r. ⌜ r ≡ absent ⌝ }
+{
+    Span { start: 0, end: 0 }
+}
+
+// where the constraint of the record at c stands
+fn span_at(book: &[u8], c: cursor::Cursor, start: usize, n: u8) -> Span
     requires { ⌜ n ≤ start ⌝ }
     requires { ⌜ start ≤ length (now book) ⌝ }
-    ensures { λ r. ⌜ now r ≡ partAt (now (book .entry)) start n c ⌝ }
+    ensures { λ r. ⌜ r ≡ spanAt (now (book .entry)) start n c ⌝ }
 {
     match c.clause(&book[..start], n) {
-        cursor::ClauseStep::Refused(_) => &book[..0],
-        cursor::ClauseStep::Got(l, past) => {
-            let a = l.rule;
-            let b = past.at;
-            &book[a..b]
-        }
+        cursor::ClauseStep::Refused(_) => nowhere(),
+        cursor::ClauseStep::Got(l, past) => Span {
+            start: l.rule,
+            end: past.at,
+        },
+    }
+}
+
+// Where the constraint of clause k stands; 0 and 0 for a refused book or an absent clause.
+pub fn constraint_span(book: &[u8], k: usize) -> Span
+    ensures { λ r. ⌜ r ≡ spanOf (now (book .entry)) k ⌝ }
+{
+    let Reading::Good(h) = read_book(book) else {
+        return nowhere();
+    };
+    let start = h.start;
+    if k < h.count {
+        span_at(book, entry(book, start, k), start, h.relations)
+    } else {
+        nowhere()
     }
 }
 
@@ -286,15 +314,10 @@ fn part_at(book: &[u8], c: cursor::Cursor, start: usize, n: u8) -> &[u8]
 pub fn constraint_of(book: &[u8], k: usize) -> &[u8]
     ensures { λ r. ⌜ now r ≡ constraintOf (now (book .entry)) k ⌝ }
 {
-    let Reading::Good(h) = read_book(book) else {
-        return &book[..0];
-    };
-    let start = h.start;
-    if k < h.count {
-        part_at(book, entry(book, start, k), start, h.relations)
-    } else {
-        &book[..0]
-    }
+    let p = constraint_span(book, k);
+    let a = p.start;
+    let b = p.end;
+    &book[a..b]
 }
 
 fn wide(x: u8) -> usize
