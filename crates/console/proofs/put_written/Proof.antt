@@ -5,8 +5,8 @@ use native.Mathlib.Omega.{arith}
 use lib.ListN.{length, length-set}
 use borrow.Author.Tests.{ltb-true}
 use borrow.Author.Needs.{needs}
-use Rattle.list_cases.proofs.put_written.Statement.{statement}
-use Rattle.list_cases.proofs.put_written.Tie as tie
+use Rattle.console.proofs.put_written.Statement.{statement}
+use Rattle.console.proofs.put_written.Tie as tie
 
 abbrev Inv-loop : tie.InvT-loop
 Inv-loop room₀ at count end₀ left₀ room end left = (length room₀ ≡ length room) × (end ≤ length room₀)

@@ -5,8 +5,8 @@ use native.Mathlib.Omega.{arith}
 use lib.ListN.{length, length-set}
 use borrow.Author.Tests.{ltb-true}
 use borrow.Author.Needs.{needs}
-use Rattle.convert_cases.proofs.put_again.Statement.{statement}
-use Rattle.convert_cases.proofs.put_again.Tie as tie
+use Rattle.console.proofs.put_again.Statement.{statement}
+use Rattle.console.proofs.put_again.Tie as tie
 
 abbrev Inv-loop : tie.InvT-loop
 Inv-loop room₀ at count more end₀ left₀ room end left = (length room₀ ≡ length room) × (end ≤ length room₀)

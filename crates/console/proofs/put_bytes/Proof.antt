@@ -2,8 +2,8 @@
 use mathlib.Core.Path.{sym}
 use lib.Seq.{length-take-le}
 use borrow.Author.Needs.{needs}
-use Rattle.list_cases.proofs.put_bytes.Statement.{statement}
-use Rattle.list_cases.proofs.put_bytes.Tie as tie
+use Rattle.console.proofs.put_bytes.Statement.{statement}
+use Rattle.console.proofs.put_bytes.Tie as tie
 
 slice-aggregate-read-full : tie.Need-slice-aggregate-read-full
 slice-aggregate-read-full c = sym (length-take-le _ _ (search needs))

@@ -2,8 +2,8 @@
 use Prim.Native.Nat.{_<_, _-_}
 use borrow.Author.Needs.{needs}
 use lib.ListN.{length}
-use Rattle.book_cases.proofs.checksum.Statement.{statement}
-use Rattle.book_cases.proofs.checksum.Tie as tie
+use Rattle.console.proofs.checksum.Statement.{statement}
+use Rattle.console.proofs.checksum.Tie as tie
 
 abbrev Inv-loop : tie.InvT-loop
 Inv-loop part sum₀ i₀ sum i = sum < 65521

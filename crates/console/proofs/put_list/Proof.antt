@@ -3,8 +3,8 @@ use Prim.Native.Nat.{_≤_}
 use mathlib.Core.Path.{_≡_}
 use lib.ListN.{length}
 use borrow.Author.Needs.{needs}
-use Rattle.convert_cases.proofs.put_list.Statement.{statement}
-use Rattle.convert_cases.proofs.put_list.Tie as tie
+use Rattle.console.proofs.put_list.Statement.{statement}
+use Rattle.console.proofs.put_list.Tie as tie
 
 abbrev Inv-loop : tie.InvT-loop
 Inv-loop room₀ end₀ left₀ room end left = (length room₀ ≡ length room) × (end ≤ length room₀)
