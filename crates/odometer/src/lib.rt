@@ -93,7 +93,7 @@ pub fn advance(values: &mut [i32; 16], h: book::Header, n: usize)
             values[i] = one;
             return;
         }
-        let lo = h.lo;
-        values[i] = lo;
+        let low = h.lo;
+        values[i] = low;
     }
 }
