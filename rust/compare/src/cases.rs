@@ -61,7 +61,7 @@ fn derivation(random: &mut Random, draft: &Draft) -> Question {
     let mut steps = lists::derive(random, draft);
     let (relation, values) = steps.last().map_or((draft.query, Vec::new()), |step| lists::head_fact(draft, step));
     let spoil = Spoil::draw(random);
-    if spoil == Spoil::Steps {
+    if spoil == Spoil::Steps || (steps.is_empty() && random.chance(50)) {
         lists::spoil_steps(random, draft, &mut steps);
     }
     let question = Question { relation: relation as u64, values, ..Question::default() };
@@ -108,13 +108,14 @@ impl Spoil {
 }
 
 /// The question with its list, damaged where that was drawn.
-fn ask(random: &mut Random, draft: &Draft, spoil: Spoil, listing: Listing, mut question: Question) -> Question {
-    question.list = if spoil == Spoil::List {
-        lists::spoil_list(random, draft, listing, &mut question.notes)
-    } else {
-        listing.numbers
-    };
-    if spoil == Spoil::Goal {
+fn ask(random: &mut Random, draft: &Draft, spoil: Spoil, mut listing: Listing, mut question: Question) -> Question {
+    if spoil == Spoil::List {
+        for _ in 0..random.pick(&[1, 1, 2, 4]) {
+            lists::spoil_list(random, draft, &mut listing, &mut question.notes);
+        }
+    }
+    question.list = listing.numbers;
+    if spoil == Spoil::Goal || random.chance(3) {
         lists::spoil_goal(random, draft, &mut question);
     }
     question

@@ -25,7 +25,7 @@ fn set_pair(bytes: &mut [u8], at: usize, value: u16) {
 /// Damages a book that follows the rules.
 pub fn book(random: &mut Random, mut writer: Writer) -> Vec<u8> {
     match random.below(12) {
-        0..=5 => field(random, &mut writer),
+        0..=5 => fields(random, &mut writer),
         6 | 7 => trailer(random, &mut writer.bytes),
         8 => {
             let fewer = writer.index - random.below(writer.index.min(12)) - 1;
@@ -44,7 +44,7 @@ pub fn book(random: &mut Random, mut writer: Writer) -> Vec<u8> {
 /// Damages a model: its constraints, its length, or any of its bytes.
 pub fn model(random: &mut Random, mut writer: Writer) -> Vec<u8> {
     match random.below(6) {
-        0..=2 => field(random, &mut writer),
+        0..=2 => fields(random, &mut writer),
         3 => writer.bytes.truncate(random.below(writer.bytes.len() + 1)),
         4 => writer.bytes.push(random.below(8) as u8),
         _ => flip(random, &mut writer.bytes),
@@ -52,7 +52,13 @@ pub fn model(random: &mut Random, mut writer: Writer) -> Vec<u8> {
     writer.bytes
 }
 
-/// Sets one judged field to a number near a limit.
+/// Sets one judged field, or a few, to numbers near a limit.
+fn fields(random: &mut Random, writer: &mut Writer) {
+    for _ in 0..random.pick(&[1, 1, 1, 2, 3]) {
+        field(random, writer);
+    }
+}
+
 fn field(random: &mut Random, writer: &mut Writer) {
     let (kind, at) = draw_mark(random, &FIELDS, &writer.marks).expect("books and models have fields");
     let any = random.number() as u8;

@@ -58,17 +58,18 @@ fn ask(random: &mut Random, draft: &Draft, derivation: &[Step], trace: &[Step], 
     }
 }
 
-/// A derivation whose trace has exactly a million numbers, or a step more, and that trace.
+/// A derivation whose trace has exactly a million numbers, or one more, and that trace.
 fn converted(random: &mut Random, turn: usize) -> Case {
+    let length = MILLION + turn % 2;
     let (state, variables) = loop {
         let (state, variables) = (random.below(136) + 1, random.below(17));
         let places = arities_of_state(state)[0];
-        if (MILLION - state).is_multiple_of(1 + variables + state) && (places == 0 || variables > 0) {
+        if (length - state).is_multiple_of(1 + variables + state) && (places == 0 || variables > 0) {
             break (state, variables);
         }
     };
     let draft = looping(arities_of_state(state), variables);
-    let steps = looping_steps(&draft, (MILLION - state) / (1 + variables + state) + turn % 2);
+    let steps = looping_steps(&draft, (length - state) / (1 + variables + state));
     ask(random, &draft, &steps, &steps, 1)
 }
 

@@ -226,20 +226,20 @@ pub fn spoil_steps(random: &mut Random, draft: &Draft, steps: &mut Vec<Step>) {
 }
 
 /// Changes a number, or the list's length.
-pub fn spoil_list(random: &mut Random, draft: &Draft, mut listing: Listing, notes: &mut Notes) -> Vec<i32> {
+pub fn spoil_list(random: &mut Random, draft: &Draft, listing: &mut Listing, notes: &mut Notes) {
     let numbers = &mut listing.numbers;
     match random.below(10) {
         0 => numbers.truncate(random.below(numbers.len() + 1)),
         1 => numbers.push(random.between(-1, 2) as i32),
         2 => numbers.clear(),
         _ => {
-            if let Some((part, at)) = draw_mark(random, &PARTS, &listing.marks) {
-                notes.loose_place = part == Part::UnsetPlace;
+            let drawn = draw_mark(random, &PARTS, &listing.marks);
+            if let Some((part, at)) = drawn.filter(|&(_, at)| at < numbers.len()) {
+                notes.loose_place |= part == Part::UnsetPlace;
                 numbers[at] = wrong_number(random, draft, part, numbers[at]);
             }
         }
     }
-    listing.numbers
 }
 
 fn wrong_number(random: &mut Random, draft: &Draft, part: Part, number: i32) -> i32 {

@@ -19,6 +19,8 @@ use cases::Case;
 use compare::{Comparer, Difference};
 use lists::Question;
 use std::process::ExitCode;
+use std::sync::atomic::{AtomicU64, Ordering};
+use std::time::Duration;
 
 /// A run of at least this length must reach every answer often enough.
 const FULL: u64 = 100_000;
@@ -26,6 +28,11 @@ const FULL: u64 = 100_000;
 const PRINTED: u64 = 5;
 /// Longer lists are cut short in what is printed, unless the case is run alone.
 const SHORT: usize = 500;
+/// A case that takes longer has failed; the slowest takes a fraction of a second.
+const PATIENCE: Duration = Duration::from_secs(60);
+
+/// The case that is run now.
+static CURRENT: AtomicU64 = AtomicU64::new(u64::MAX);
 
 struct Options {
     seed: u64,
@@ -75,12 +82,27 @@ fn print_case(options: &Options, number: u64, case: &Case, differences: &[Differ
     }
 }
 
+/// Ends the run, as failed, if one case goes on for too long.
+fn watch(seed: u64) {
+    std::thread::spawn(move || loop {
+        let case = CURRENT.load(Ordering::Relaxed);
+        std::thread::sleep(PATIENCE);
+        if case == CURRENT.load(Ordering::Relaxed) {
+            println!("seed {seed}, case {case}: no answer within {} seconds", PATIENCE.as_secs());
+            println!("0 passed, 1 failed");
+            std::process::exit(1);
+        }
+    });
+}
+
 /// Runs the cases; gives how many passed and failed.
 fn run(options: &Options) -> (u64, u64) {
     let numbers = options.only.map_or(0..options.cases, |only| only..only + 1);
     let mut comparer = Comparer::default();
     let (mut passed, mut failed) = (0, 0);
+    watch(options.seed);
     for number in numbers {
+        CURRENT.store(number, Ordering::Relaxed);
         let case = Case::make(options.seed, number);
         if comparer.case(&case) {
             passed += 1;
