@@ -248,7 +248,7 @@ fn wrong_number(random: &mut Random, draft: &Draft, part: Part, number: i32) -> 
     let clauses = draft.clauses.len() as i32;
     let inside = value(random, lo, hi);
     match part {
-        Part::FirstFlag | Part::Flag => random.pick(&[1 - number, 2, -1, 256, i32::MIN, i32::MAX]),
+        Part::FirstFlag | Part::Flag => random.pick(&[1_i32.wrapping_sub(number), 2, -1, 256, i32::MIN, i32::MAX]),
         Part::Clause => random.pick(&[clauses, clauses - 1, -1, 64, 256, i32::MIN, i32::MAX, near]),
         _ => random.pick(&[lo.wrapping_sub(1), hi.wrapping_add(1), i32::MIN, i32::MAX, near, near, inside, inside]),
     }
