@@ -30,11 +30,60 @@ mod c {
         pub fn ruahmitz_book(book: *const u8, n: usize, place: *mut u64) -> u32;
         pub fn ruahmitz_constraint(book: *const u8, n: usize, clause: u64, start: *mut u64) -> usize;
         pub fn ruahmitz_text(book: *const u8, n: usize, room: *mut u8, size: usize, place: *mut u64) -> u32;
-        pub fn ruahmitz_derivation(book: *const u8, n: usize, list: *const i32, count: usize, relation: u64, values: *const i32, value_count: usize, place: *mut u64) -> u32;
-        pub fn ruahmitz_trace(book: *const u8, n: usize, list: *const i32, count: usize, relation: u64, values: *const i32, value_count: usize, place: *mut u64) -> u32;
-        pub fn ruahmitz_to_trace(book: *const u8, n: usize, list: *const i32, count: usize, relation: u64, values: *const i32, value_count: usize, room: *mut i32, size: usize, place: *mut u64) -> u32;
-        pub fn ruahmitz_to_derivation(book: *const u8, n: usize, list: *const i32, count: usize, relation: u64, values: *const i32, value_count: usize, room: *mut i32, size: usize, place: *mut u64) -> u32;
-        pub fn ruahmitz_model(book: *const u8, n: usize, model: *const u8, size: usize, place: *mut u64, count: *mut u64, clause: *mut u64, values: *mut i32) -> u32;
+        pub fn ruahmitz_derivation(
+            book: *const u8,
+            n: usize,
+            list: *const i32,
+            count: usize,
+            relation: u64,
+            values: *const i32,
+            value_count: usize,
+            place: *mut u64,
+        ) -> u32;
+        pub fn ruahmitz_trace(
+            book: *const u8,
+            n: usize,
+            list: *const i32,
+            count: usize,
+            relation: u64,
+            values: *const i32,
+            value_count: usize,
+            place: *mut u64,
+        ) -> u32;
+        pub fn ruahmitz_to_trace(
+            book: *const u8,
+            n: usize,
+            list: *const i32,
+            count: usize,
+            relation: u64,
+            values: *const i32,
+            value_count: usize,
+            room: *mut i32,
+            size: usize,
+            place: *mut u64,
+        ) -> u32;
+        pub fn ruahmitz_to_derivation(
+            book: *const u8,
+            n: usize,
+            list: *const i32,
+            count: usize,
+            relation: u64,
+            values: *const i32,
+            value_count: usize,
+            room: *mut i32,
+            size: usize,
+            place: *mut u64,
+        ) -> u32;
+        pub fn ruahmitz_model(
+            book: *const u8,
+            n: usize,
+            model: *const u8,
+            size: usize,
+            place: *mut u64,
+            count: *mut u64,
+            clause: *mut u64,
+            values: *mut i32,
+        ) -> u32;
     }
 }
 
@@ -63,7 +112,16 @@ pub fn text(book: &[u8], room: &mut [u8]) -> Answer {
 pub fn derivation(book: &[u8], list: &[i32], relation: u64, values: &[i32]) -> Answer {
     let mut place = 0;
     let number = unsafe {
-        c::ruahmitz_derivation(book.as_ptr(), book.len(), list.as_ptr(), list.len(), relation, values.as_ptr(), values.len(), &mut place)
+        c::ruahmitz_derivation(
+            book.as_ptr(),
+            book.len(),
+            list.as_ptr(),
+            list.len(),
+            relation,
+            values.as_ptr(),
+            values.len(),
+            &mut place,
+        )
     };
     Answer { number, place }
 }
@@ -72,7 +130,16 @@ pub fn derivation(book: &[u8], list: &[i32], relation: u64, values: &[i32]) -> A
 pub fn trace(book: &[u8], list: &[i32], relation: u64, values: &[i32]) -> Answer {
     let mut place = 0;
     let number = unsafe {
-        c::ruahmitz_trace(book.as_ptr(), book.len(), list.as_ptr(), list.len(), relation, values.as_ptr(), values.len(), &mut place)
+        c::ruahmitz_trace(
+            book.as_ptr(),
+            book.len(),
+            list.as_ptr(),
+            list.len(),
+            relation,
+            values.as_ptr(),
+            values.len(),
+            &mut place,
+        )
     };
     Answer { number, place }
 }
@@ -82,7 +149,16 @@ pub fn to_trace(book: &[u8], list: &[i32], relation: u64, values: &[i32], room: 
     let mut place = 0;
     let number = unsafe {
         c::ruahmitz_to_trace(
-            book.as_ptr(), book.len(), list.as_ptr(), list.len(), relation, values.as_ptr(), values.len(), room.as_mut_ptr(), room.len(), &mut place,
+            book.as_ptr(),
+            book.len(),
+            list.as_ptr(),
+            list.len(),
+            relation,
+            values.as_ptr(),
+            values.len(),
+            room.as_mut_ptr(),
+            room.len(),
+            &mut place,
         )
     };
     Answer { number, place }
@@ -93,7 +169,16 @@ pub fn to_derivation(book: &[u8], list: &[i32], relation: u64, values: &[i32], r
     let mut place = 0;
     let number = unsafe {
         c::ruahmitz_to_derivation(
-            book.as_ptr(), book.len(), list.as_ptr(), list.len(), relation, values.as_ptr(), values.len(), room.as_mut_ptr(), room.len(), &mut place,
+            book.as_ptr(),
+            book.len(),
+            list.as_ptr(),
+            list.len(),
+            relation,
+            values.as_ptr(),
+            values.len(),
+            room.as_mut_ptr(),
+            room.len(),
+            &mut place,
         )
     };
     Answer { number, place }
@@ -104,7 +189,16 @@ pub fn model(book: &[u8], model: &[u8]) -> ModelAnswer {
     let (mut place, mut count, mut clause) = (0, 0, 0);
     let mut values = [0; 16];
     let number = unsafe {
-        c::ruahmitz_model(book.as_ptr(), book.len(), model.as_ptr(), model.len(), &mut place, &mut count, &mut clause, values.as_mut_ptr())
+        c::ruahmitz_model(
+            book.as_ptr(),
+            book.len(),
+            model.as_ptr(),
+            model.len(),
+            &mut place,
+            &mut count,
+            &mut clause,
+            values.as_mut_ptr(),
+        )
     };
     ModelAnswer { number, place, count, clause, values }
 }
