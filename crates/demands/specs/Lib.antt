@@ -1,2 +1,4 @@
+pub mod Calls
+pub mod Glue
 pub mod Demands
 pub mod Table
