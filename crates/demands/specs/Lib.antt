@@ -1,4 +1,3 @@
-pub mod Calls
-pub mod Glue
 pub mod Demands
+pub mod Theorems
 pub mod Table

@@ -28,7 +28,8 @@ module _ (s m : List ℕ) (x : Reply) (w : Replies s m x) where
   book-refused n p q = w .tells ∙ rw q
 
   module _ (b : Book) (held : books.answer s ≡ books.accepted b) where
-    examined : told x ≡ examine b m
+    -- the reply is what is said of that book
+    pub examined : told x ≡ examine b m
     examined = w .tells ∙ answered s m held
 
     -- accepted: all assignments were examined
