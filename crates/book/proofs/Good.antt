@@ -3,13 +3,7 @@ use Prim.Native.Nat.{ℕ, _+_, _*_, _<_, _≤_}
 use native.Mathlib.Omega.{arith}
 use mathlib.Core.Path.{_≡_, sym, _∙_}
 use mathlib.Core.List.{List}
-use lib.ListN.{length, take, length-take}
-use Rattle.cursor.specs.declared.Cursor.{Cursor}
-use Rattle.cursor.specs.declared.Clause.{Clause}
-use Rattle.cursor.specs.declared.ClauseStep.{ClauseStep}
-use Rattle.cursor.specs.declared.ClauseStep.the-variants as clauses
-use Rattle.cursor.specs.Clause.{clauseAt}
-use Rattle.cursor.specs.Sound.{clause-part}
+use lib.ListN.{length, take}
 use Rattle.book.specs.declared.Header.{Header}
 use Rattle.book.specs.declared.Reading.{Reading}
 use Rattle.book.specs.declared.Reading.the-variants as readings
@@ -50,11 +44,3 @@ module _ (s : List ℕ) (g : Header) (w : Trailed s g) where
 
   pub good-entry : (k : ℕ) → k < g .count → g .start + k * 2 + 2 ≤ length s
   good-entry k h = let x = w .kept in omega arith
-
--- the part that a clause's constraint is, in a list of which the clause was read from the front
-module _ (l : List ℕ) (j n : ℕ) (c : Cursor) (k : Clause) (e : Cursor) {r : ClauseStep} where
-  pub part-start : r ≡ clauseAt (take j l) n c → r ≡ clauses.Got k e → k .rule ≤ e .at
-  part-start p q = clause-part (take j l) n c k e p q .0
-
-  pub part-end : r ≡ clauseAt (take j l) n c → r ≡ clauses.Got k e → e .at ≤ length l
-  part-end p q = omega (arith, clause-part (take j l) n c k e p q .1, length-take j l)

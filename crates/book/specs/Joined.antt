@@ -119,26 +119,6 @@ module _ (s : List ℕ) (h : Header) (good : read s ≡ readings.Good h) where
   unfolding bookIn
   count-is = upTo-length (h .count) _
 
--- the same of a call's result r, which reads the parts alone
-module _ (s : List ℕ) (h : Header) (k : ℕ) (l : Clause) {m : Cursor} {r : ClauseStep} (good : read s ≡ readings.Good h) (below : k < h .count)
-    (q : m ≡ entryAt s (h .start) k) (p : r ≡ partsAt (take (h .start) s) (h .relations) m) where
-  whole : (w : IsRead (clauseAt (take (h .start) s) (h .relations) (entryAt s (h .start) k))) → (d : Cursor) × (r ≡ clauses.Got (w .clause) d)
-  whole w = let (d, e) = parts-of (take (h .start) s) (h .relations) (entryAt s (h .start) k) (w .clause) (w .past) (w .reads) in (d, rw q at p ∙ e)
-
-  pub held-by : {e : Cursor} → r ≡ clauses.Got l e → Held s h k l
-  held-by g =
-      let w = record-read s h good k below in
-      let (d, e) = whole w in
-      let same : w .clause ≡ l = cc in
-      rw same at (held s h good k below (w .clause) (w .past) (w .reads))
-
-  pub never-refused : {f : Refusal} → r ≡ clauses.Refused f → Held s h k l
-  never-refused {f} g =
-      let (d, e) = whole (record-read s h good k below) in
-      absurd (no-clause f (sym g ∙ e))
-
-pub ruleset holding = (held-by, never-refused)
-
 -- no two records satisfy that promise
 pub one-record : (s : List ℕ) (h : Header) (k : ℕ) (l m : Clause) → Held s h k l → Held s h k m → l ≡ m
 one-record s h k l m p q = let e = p .reads in let f = q .reads in let same : l ≡ m = cc in same

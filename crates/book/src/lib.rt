@@ -2,10 +2,12 @@
 ghost use mathlib.Core.Path.{_≡_};
 ghost use Prim.Native.Nat.{_+_, _*_, _≤_, _<_};
 ghost use lib.ListN.{length};
-ghost use Rattle.book.specs.Read.{topArity, arityAt, aritiesAt, recordAt, clausesAt, headed, sized, trailer, read, entryAt, partAt, constraintOf};
+ghost use Rattle.book.specs.Read.{topArity, arityAt, aritiesAt, recordAt, clausesAt, headed, sized, trailer, read, entryAt, constraintOf};
+ghost use Rattle.book.specs.Span.{absent, spanAt, spanOf};
 ghost use Rattle.whole.specs.Bytes.{u16At, i32At};
 ghost use Rattle.book.specs.Answer.{Answers};
 ghost use Rattle.book.specs.Joined.{Held};
+ghost use Rattle.book.specs.Laid.{pastArguments, recordOf, Room};
 ghost use Rattle.book.specs.declared.Reading.the-variants.{Good};
 
 // What the trailer says: the window, where the index starts, how many clauses and relations there are, and the query relation.
@@ -22,6 +24,12 @@ pub struct Header {
 pub enum Reading {
     Good(Header),
     Refused(cursor::Refusal),
+}
+
+// A part of a book: from byte `start` up to, and without, byte `end`.
+pub struct Span {
+    pub start: usize,
+    pub end: usize,
 }
 
 impl Header {
@@ -265,19 +273,40 @@ fn entry(book: &[u8], start: usize, k: usize) -> cursor::Cursor
     }
 }
 
-// the constraint of the record at c, as the very part of the book that holds it
-fn part_at(book: &[u8], c: cursor::Cursor, start: usize, n: u8) -> &[u8]
+// no part of the book: 0 and 0
+fn nowhere() -> Span
+    ensures { λ r. ⌜ r ≡ absent ⌝ }
+{
+    Span { start: 0, end: 0 }
+}
+
+// where the constraint of the record at c stands
+fn span_at(book: &[u8], c: cursor::Cursor, start: usize, n: u8) -> Span
     requires { ⌜ n ≤ start ⌝ }
     requires { ⌜ start ≤ length (now book) ⌝ }
-    ensures { λ r. ⌜ now r ≡ partAt (now (book .entry)) start n c ⌝ }
+    ensures { λ r. ⌜ r ≡ spanAt (now (book .entry)) start n c ⌝ }
 {
     match c.clause(&book[..start], n) {
-        cursor::ClauseStep::Refused(_) => &book[..0],
-        cursor::ClauseStep::Got(l, past) => {
-            let a = l.rule;
-            let b = past.at;
-            &book[a..b]
-        }
+        cursor::ClauseStep::Refused(_) => nowhere(),
+        cursor::ClauseStep::Got(l, past) => Span {
+            start: l.rule,
+            end: past.at,
+        },
+    }
+}
+
+// Where the constraint of clause k stands; 0 and 0 for a refused book or an absent clause.
+pub fn constraint_span(book: &[u8], k: usize) -> Span
+    ensures { λ r. ⌜ r ≡ spanOf (now (book .entry)) k ⌝ }
+{
+    let Reading::Good(h) = read_book(book) else {
+        return nowhere();
+    };
+    let start = h.start;
+    if k < h.count {
+        span_at(book, entry(book, start, k), start, h.relations)
+    } else {
+        nowhere()
     }
 }
 
@@ -285,14 +314,46 @@ fn part_at(book: &[u8], c: cursor::Cursor, start: usize, n: u8) -> &[u8]
 pub fn constraint_of(book: &[u8], k: usize) -> &[u8]
     ensures { λ r. ⌜ now r ≡ constraintOf (now (book .entry)) k ⌝ }
 {
-    let Reading::Good(h) = read_book(book) else {
-        return &book[..0];
-    };
-    let start = h.start;
-    if k < h.count {
-        part_at(book, entry(book, start, k), start, h.relations)
+    let p = constraint_span(book, k);
+    let a = p.start;
+    let b = p.end;
+    &book[a..b]
+}
+
+fn wide(x: u8) -> usize
+    ensures { λ r. ⌜ (r ≡ x) × (r < 256) ⌝ }
+{
+    x as usize
+}
+
+// the place past the arguments of the relation r, whose number stands at p; 255 has none
+fn past(book: &[u8], p: usize, r: u8) -> usize
+    requires { ⌜ p < length (now book) ⌝ }
+    requires { ⌜ ((r ≡ 255 → ⊥) → r < length (now book)) ⌝ }
+    ensures { λ q. ⌜ q ≡ pastArguments (now (book .entry)) p r ⌝ }
+{
+    if r == 255 {
+        p + 1
     } else {
-        &book[..0]
+        p + 1 + wide(book[r as usize])
+    }
+}
+
+// the record that begins at p, with nothing judged again
+fn laid(book: &[u8], p: usize) -> cursor::Clause
+    requires { ⌜ Room (now book) p ⌝ }
+    ensures { λ r. ⌜ r ≡ recordOf (now (book .entry)) p ⌝ }
+{
+    let body = book[p + 1];
+    let seat = past(book, p + 1, body);
+    let head = book[seat];
+    cursor::Clause {
+        variables: book[p],
+        body: body,
+        body_at: p + 1,
+        head: head,
+        head_at: seat,
+        rule: past(book, seat, head),
     }
 }
 
@@ -302,17 +363,6 @@ pub fn record(book: &[u8], h: Header, k: usize) -> cursor::Clause
     requires { ⌜ k < h .count ⌝ }
     ensures { λ r. ⌜ Held (now (book .entry)) h k r ⌝ }
 {
-    let start = h.start;
-    let cursor::ClauseStep::Got(l, _) = entry(book, start, k).parts(&book[..start], h.relations)
-    else {
-        return cursor::Clause {
-            variables: 0,
-            body: 255,
-            body_at: 0,
-            head: 0,
-            head_at: 0,
-            rule: 0,
-        };
-    };
-    l
+    let c = entry(book, h.start, k);
+    laid(book, c.at)
 }

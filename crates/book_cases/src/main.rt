@@ -3,47 +3,12 @@
 // are handed out, each as its length and a checksum of its bytes. For an accepted book these are
 // the parts of all its clauses and of the absent one after the last, for a refused book that of
 // clause 0, and for both that of a clause number far off. What must be printed is worked out by tests/book_cases.py.
-ghost use Prim.Native.Nat.{_<_};
-use libc::STDIN_FILENO;
-use libc::STDOUT_FILENO;
 
 // Twice this number is 0 if it wraps.
 const FAR: usize = 9223372036854775808;
 
-fn wide(b: u8) -> usize
-    ensures { λ r. ⌜ r < 256 ⌝ }
-{
-    b as usize
-}
-
-fn print(n: usize) {
-    io::print_decimal(STDOUT_FILENO, n as u64);
-}
-
-// The checksum of what came before, and one byte more.
-fn summed(sum: usize, b: u8) -> usize
-    requires { ⌜ sum < 65521 ⌝ }
-    ensures { λ r. ⌜ r < 65521 ⌝ }
-{
-    (sum * 257 + wide(b)) % 65521
-}
-
-fn checksum(part: &[u8]) -> usize {
-    let mut sum = 0;
-    let mut i = 0;
-    while i < part.len() {
-        sum = summed(sum, part[i]);
-        i += 1;
-    }
-    sum
-}
-
 fn print_part(book: &[u8], k: usize) {
-    let part = book::constraint_of(book, k);
-    io::write_all(STDOUT_FILENO, b" ");
-    print(part.len());
-    io::write_all(STDOUT_FILENO, b":");
-    print(checksum(part));
+    console::print_sum(book::constraint_of(book, k));
 }
 
 // The parts of the clauses 0 to last, that of a clause far off, and the end of the line.
@@ -55,41 +20,26 @@ fn print_parts(book: &[u8], last: usize) {
     }
     print_part(book, last);
     print_part(book, FAR);
-    io::write_all(STDOUT_FILENO, b"\n");
-}
-
-fn print_answer(number: u8, place: usize) {
-    print(wide(number));
-    io::write_all(STDOUT_FILENO, b" at ");
-    print(place);
+    console::write(b"\n");
 }
 
 fn print_line(book: &[u8]) {
     let reading = book::read_book(book);
     match reading {
         book::Reading::Good(h) => {
-            print_answer(0, 0);
+            console::print_answer(0, 0);
             print_parts(book, h.count);
         }
         book::Reading::Refused(r) => {
-            print_answer(r.number, r.place);
+            console::print_answer(r.number, r.place);
             print_parts(book, 0);
         }
     }
 }
 
-// The length of the next case. At the end of the input it is one that no room has.
-fn next_length() -> usize {
-    let mut bytes = [0u8; 4];
-    if io::read_full(STDIN_FILENO, &mut bytes) < 4 {
-        return usize::MAX;
-    }
-    wide(bytes[0]) + wide(bytes[1]) * 256 + wide(bytes[2]) * 65536 + wide(bytes[3]) * 16777216
-}
-
 // Fills the room with a case and prints its line; false where the input ends before.
 fn fill_and_print(room: &mut [u8]) -> bool {
-    if io::read_full(STDIN_FILENO, room) < room.len() {
+    if !console::filled(room) {
         return false;
     }
     print_line(room);
@@ -98,7 +48,7 @@ fn fill_and_print(room: &mut [u8]) -> bool {
 
 // Reads the next case and prints its line; false where there is no whole case left.
 fn run_case(room: &mut [u8]) -> bool {
-    let n = next_length();
+    let n = console::next_length();
     if n > room.len() {
         return false;
     }

@@ -9,6 +9,8 @@ use native.Mathlib.Omega.{arith}
 use lib.ListN.{length, getD, drop, length-append, length-drop}
 use lib.IntN.{ℤ}
 use borrow.Author.Tests.{ne-eqb, le-leb, lt-leb}
+use mir.Syntax.{w8}
+use mir.Val.{Fits}
 use Rattle.meaning.specs.Book.{Book}
 use Rattle.meaning.specs.State.{flags}
 use Rattle.meaning.specs.Laws.{flags-laws}
@@ -33,11 +35,10 @@ use Rattle.book.specs.Meaning.{bookIn}
 use Rattle.book.specs.Trailer.{read-trailed}
 use Rattle.encode.specs.Written.{limits-read}
 use Rattle.facts.specs.declared.Answer as facts
-use Rattle.facts.specs.declared.Answer.the-variants as answers
-use Rattle.facts.specs.Answer.{says, onBook, afterBook, Answers}
-use Rattle.facts.proofs.Judge.{relations-are}
-use Rattle.trace.specs.Answer as traces
-use Rattle.derivation.specs.Answer as derivations
+use Rattle.facts.specs.declared.Answer.the-variants as checks
+use Rattle.facts.specs.Answer as answers
+use Rattle.facts.proofs.Judge.{relations-are, told-ok, told-no}
+use Rattle.facts.proofs.Seats.{book-good}
 use Rattle.steps.specs.Put.{Put}
 use Rattle.steps.specs.Walk.{Walk}
 use Rattle.back.specs.Walk.{Trace}
@@ -127,60 +128,20 @@ count-small {b} {l} {z} {k} w h q =
     let y : k * z ≤ 1000000 * 144 = mul-le-mul m h in
     omega (arith, w .few)
 
--- ---- what reading the book answered
-
-module _ (s : List ℕ) {y : Reading} (p : y ≡ read s) where
-  answer-good : {h : Header} → y ≡ readings.Good h → books.answer s ≡ books.accepted (bookIn s h)
-  unfolding books.answer books.told
-  answer-good q = rw (sym p ∙ q)
-
-  answer-no : {g : Refusal} → y ≡ readings.Refused g → books.answer s ≡ books.refused (g .number) (g .place)
-  unfolding books.answer books.told
-  answer-no q = rw (sym p ∙ q)
-
-  -- a check that read it too
-  module _ (h : Header) (q : y ≡ readings.Good h) (f : Book → lists.Answer) {x : facts.Answer} (w : Answers (onBook s f) x) where
-    check-same : says x ≡ f (bookIn s h)
-    unfolding onBook afterBook
-    check-same = w .tells ∙ rw (answer-good q)
-
-    pub check-ok : x ≡ answers.Accepted → f (bookIn s h) ≡ lists.ok
-    unfolding says
-    check-ok e = rw e at (sym check-same)
-
-    pub check-no : {g : Refusal} → x ≡ answers.Refused g → f (bookIn s h) ≡ lists.refused (g .number) (g .place)
-    unfolding says
-    check-no e = rw e at (sym check-same)
-
--- ---- what the two checks answered
-
-module _ (s : List ℕ) (h : Header) (l : List ℤ) (r : ℕ) (vals : List ℤ) {y : Reading} {x : facts.Answer} (p : y ≡ read s) (q : y ≡ readings.Good h) where
-  pub trace-yes : Answers (traces.answer s l r vals) x → x ≡ answers.Accepted → checkTrace (bookIn s h) flags r vals l ≡ lists.ok
-  unfolding traces.answer
-  trace-yes w e = check-ok s p h q _ w e
-
-  pub trace-no : {g : Refusal} → Answers (traces.answer s l r vals) x → x ≡ answers.Refused g → checkTrace (bookIn s h) flags r vals l ≡ lists.refused (g .number) (g .place)
-  unfolding traces.answer
-  trace-no w e = check-no s p h q _ w e
-
-  pub derivation-yes : Answers (derivations.answer s l r vals) x → x ≡ answers.Accepted → checkDerivation (bookIn s h) r vals l ≡ lists.ok
-  unfolding derivations.answer
-  derivation-yes w e = check-ok s p h q _ w e
-
-  pub derivation-no : {g : Refusal} → Answers (derivations.answer s l r vals) x → x ≡ answers.Refused g → checkDerivation (bookIn s h) r vals l ≡ lists.refused (g .number) (g .place)
-  unfolding derivations.answer
-  derivation-no w e = check-no s p h q _ w e
-
 -- ---- a call
 
-module _ (s : List ℕ) (f : Book → Reply) (d : List ℤ) {y : Reading} (p : y ≡ read s) where
-  pub converts-good : (h : Header) (r : Converted) (e : List ℤ) → y ≡ readings.Good h → Replies (f (bookIn s h)) r e → Converts s f d r e
-  unfolding caseOf replyOf
-  converts-good h r e q w = record { is = rw (answer-good s p q) (w .is); tells = rw (answer-good s p q, w .is, w .room) (says-told (f (bookIn s h))) }
+module _ (s : List ℕ) (f : Book → Reply) (d : List ℤ) {y : Reading} {r : Converted} where
+  pub converts-good : {h : Header} {e : List ℤ} → books.Answers s y → y ≡ readings.Good h → Replies (f (bookIn s h)) r e → Converts s f d r e
+  unfolding books.answer books.told caseOf replyOf
+  converts-good {h} p q w =
+      let a : books.answer s ≡ books.accepted (bookIn s h) = rw (sym (p .is) ∙ q) in
+      record { is = rw a (w .is); tells = rw (a, w .is, w .room) (says-told (f (bookIn s h))) }
 
-  pub converts-stop : {g : Refusal} (r : Converted) → y ≡ readings.Refused g → r ≡ refusalOf y → Converts s f d r d
-  unfolding caseOf replyOf refusalOf replies.says
-  converts-stop r q e = record { is = rw (answer-no s p q, e, q); tells = rw (answer-no s p q, e, q) }
+  pub converts-stop : {g : Refusal} → books.Answers s y → y ≡ readings.Refused g → r ≡ refusalOf y → Converts s f d r d
+  unfolding books.answer books.told caseOf replyOf refusalOf replies.says
+  converts-stop {g} p q e =
+      let a : books.answer s ≡ books.refused (g .number) (g .place) = rw (sym (p .is) ∙ q) in
+      record { is = rw (a, e, q); tells = rw (a, e, q) }
 
 -- ---- an accepted list
 
@@ -191,21 +152,28 @@ module _ (s : List ℕ) (h : Header) (l : List ℤ) (r : ℕ) (vals : List ℤ) 
       let k = read-trailed s h good .kept in
       (omega (arith, w .there, relations-are s h good), w .few)
 
-  pub trace-walk : checkTrace (bookIn s h) flags r vals l ≡ lists.ok → Trace s h l (size (bookIn s h) flags) × (r < 16)
-  unfolding checkTrace
-  trace-walk e =
-      let (small, few) = goal-small _ e in
-      (record { walk = record { good = good; steps = step-in-trace (bookIn s h) flags l r vals e }; size = refl; few = few }, small)
+  module _ {y : facts.Answer} where
+    pub trace-walk : y ≡ answers.told (checkTrace (bookIn s h) flags r vals l) → y ≡ checks.Accepted → Trace s h l (size (bookIn s h) flags)
+    unfolding checkTrace
+    trace-walk p q =
+        let e = told-ok _ (sym p ∙ q) in
+        record { walk = record { good = good; steps = step-in-trace (bookIn s h) flags l r vals e }; size = refl; few = goal-small _ e .1 }
 
-  pub derivation-walk : checkDerivation (bookIn s h) r vals l ≡ lists.ok → Walk s h l 0 0
-  derivation-walk e = record { good = good; steps = step-in-derivation (bookIn s h) l r vals e }
+    pub trace-small : y ≡ answers.told (checkTrace (bookIn s h) flags r vals l) → y ≡ checks.Accepted → r < 16
+    unfolding checkTrace
+    trace-small p q = goal-small _ (told-ok _ (sym p ∙ q)) .0
 
-  pub derivation-long : ((i : ℕ) → getD s i 0 < 256) → checkDerivation (bookIn s h) r vals l ≡ lists.ok → Long (bookIn s h) l
-  unfolding checkDerivation
-  derivation-long bytes e = record {
-    few = goal-small _ e .1;
-    long = asTrace-length (bookIn s h) flags flags-laws (limits-read s h (record { below = λ i k. bytes i }) good) r vals l e;
-  }
+    pub derivation-walk : y ≡ answers.told (checkDerivation (bookIn s h) r vals l) → y ≡ checks.Accepted → Walk s h l 0 0
+    derivation-walk p q = record { good = good; steps = step-in-derivation (bookIn s h) l r vals (told-ok _ (sym p ∙ q)) }
+
+    pub derivation-long : ((i : ℕ) → Fits w8 (getD s i 0)) → y ≡ answers.told (checkDerivation (bookIn s h) r vals l) → y ≡ checks.Accepted → Long (bookIn s h) l
+    unfolding checkDerivation
+    derivation-long bytes p q =
+        let e = told-ok _ (sym p ∙ q) in
+        record {
+          few = goal-small _ e .1;
+          long = asTrace-length (bookIn s h) flags flags-laws (limits-read s h (record { below = λ i k. bytes i .fits }) good) r vals l e;
+        }
 
 -- at the number that the code has for a state's size
 pub trace-at : {s : List ℕ} {h : Header} {l : List ℤ} {z n : ℕ} → Trace s h l z → n ≡ z → Trace s h l n
@@ -213,19 +181,27 @@ trace-at t e = rw e t
 
 -- ---- the replies of the two calls
 
-module _ (b : Book) (r : ℕ) (vals l d : List ℤ) where
-  pub derivation-on : {x : Converted} {e : List ℤ} → checkTrace b flags r vals l ≡ lists.ok → Replies (written lists.ok (asDerivation b flags r l) d) x e → Replies (toDerivation b flags r vals l d) x e
+module _ (b : Book) (r : ℕ) (vals l d : List ℤ) {y : facts.Answer} {x : Converted} where
+  pub derivation-on : {e : List ℤ} → y ≡ answers.told (checkTrace b flags r vals l) → y ≡ checks.Accepted →
+      Replies (written lists.ok (asDerivation b flags r l) d) x e → Replies (toDerivation b flags r vals l d) x e
   unfolding toDerivation
-  derivation-on e w = rw e w
+  derivation-on p q w = rw (told-ok _ (sym p ∙ q)) w
 
-  pub derivation-stop : (g : Refusal) → checkTrace b flags r vals l ≡ lists.refused (g .number) (g .place) → Replies (toDerivation b flags r vals l d) (Refused g) d
+  pub derivation-stop : {g : Refusal} → y ≡ answers.told (checkTrace b flags r vals l) → y ≡ checks.Refused g → x ≡ Refused g → Replies (toDerivation b flags r vals l d) x d
   unfolding toDerivation
-  derivation-stop g e = replies-stop (checkTrace b flags r vals l) (asDerivation b flags r l) d g (plain-trace b flags r vals l) e
+  derivation-stop {g} p q e = rw e (replies-stop _ (asDerivation b flags r l) d g (plain-trace b flags r vals l) (told-no _ g (sym p ∙ q)))
 
-  pub trace-on : {x : Converted} {e : List ℤ} → checkDerivation b r vals l ≡ lists.ok → Replies (written (limited (asTrace b flags l)) (asTrace b flags l) d) x e → Replies (toTrace b flags r vals l d) x e
+  pub trace-on : {e : List ℤ} → y ≡ answers.told (checkDerivation b r vals l) → y ≡ checks.Accepted →
+      Replies (written (limited (asTrace b flags l)) (asTrace b flags l) d) x e → Replies (toTrace b flags r vals l d) x e
   unfolding toTrace limited andThen
-  trace-on e w = rw e w
+  trace-on p q w = rw (told-ok _ (sym p ∙ q)) w
 
-  pub trace-stop : (g : Refusal) → checkDerivation b r vals l ≡ lists.refused (g .number) (g .place) → Replies (toTrace b flags r vals l d) (Refused g) d
+  pub trace-stop : {g : Refusal} → y ≡ answers.told (checkDerivation b r vals l) → y ≡ checks.Refused g → x ≡ Refused g → Replies (toTrace b flags r vals l d) x d
   unfolding toTrace andThen
-  trace-stop g e = replies-stop _ (asTrace b flags l) d g (plain-stop (checkDerivation b r vals l) g _ (plain-derivation b r vals l) e) (rw e)
+  trace-stop {g} p q e =
+      let k = told-no _ g (sym p ∙ q) in
+      rw e (replies-stop _ (asTrace b flags l) d g (plain-stop (checkDerivation b r vals l) g _ (plain-derivation b r vals l) k) (rw k))
+
+pub ruleset calls = (converts-good, converts-stop, derivation-on, derivation-stop, trace-on, trace-stop)
+
+pub ruleset accepted = (book-good, trace-walk, trace-small, derivation-walk, derivation-long)

@@ -59,7 +59,7 @@ pub record Converts (s : List ℕ) (f : Book → Reply) (d : List ℤ) (r : Conv
   pub is : r ≡ caseOf (books.answer s) f
   pub tells : says r e ≡ replyOf (books.answer s) f d
 
-room-said : (r : Converted) (e : List ℤ) → says r e .room ≡ e
+pub room-said : (r : Converted) (e : List ℤ) → says r e .room ≡ e
 unfolding says
 room-said (Wrote n) e = refl
 room-said (Refused g) e = refl

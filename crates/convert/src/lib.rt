@@ -73,7 +73,7 @@ pub fn to_derivation(
     let book::Reading::Good(h) = read else {
         return refused_by(read);
     };
-    match trace::check(book, list, relation, values) {
+    match trace::check_in(book, h, list, relation, values) {
         facts::Answer::Refused(r) => Converted::Refused(r),
         facts::Answer::Accepted => derived(book, h, list, relation, room),
     }
@@ -113,7 +113,7 @@ pub fn to_trace(
     let book::Reading::Good(h) = read else {
         return refused_by(read);
     };
-    match derivation::check(book, list, relation, values) {
+    match derivation::check_in(book, h, list, relation, values) {
         facts::Answer::Refused(r) => Converted::Refused(r),
         facts::Answer::Accepted => traced(book, h, list, room),
     }

@@ -1,6 +1,7 @@
 -- The demands on the kit, in document 01's words. Read this file first: three records of statements, a sentence before each.
 -- `Theorems` beside it proves them: demand-1 for every list of numbers s, demand-2 for all bytes s, demand-3 for all bytes s that hold a book b.
 -- The words and the calls' names are in `Words`, and lead to what they mean; `Table` has document 01's cases; docs/READING.md explains the symbols.
+-- `Bytes s`: every number of s is below 256, as in whatever a program lends as bytes.
 use Prim.Native.Nat.{ℕ, _<_, _≤_, _^_}
 use mathlib.Core.Path.{_≡_}
 use mathlib.Core.Logic.{_↔_}
@@ -29,6 +30,32 @@ pub record BookRefused (s : List ℕ) (n p : ℕ) : Type 0 where
   pub to-derivation : (l d e : List ℤ) (g : Fact) (x : Converted) → ToDerivation s l g d x e → (x ≡ conversions.Refused (refuse n p)) × (e ≡ d)
   pub print : (d e : List ℕ) (x : Printed) → Print s d x e → (x ≡ printings.Refused (refuse n p)) × (e ≡ d)
 
+-- The functions for C: what each returns and writes is settled, and is the reply of the call that it stands for.
+pub record InC (s : List ℕ) : Type 0 where
+  pub one-book : (r q r′ q′ : ℕ) → ReadsBook s r q → ReadsBook s r′ q′ → (r ≡ r′) × (q ≡ q′)
+  pub one-constraint : (k r q r′ q′ : ℕ) → Hands s k r q → Hands s k r′ q′ → (r ≡ r′) × (q ≡ q′)
+  pub one-derivation : (l v : List ℤ) (g r q r′ q′ : ℕ) → ChecksDerivation s l g v r q → ChecksDerivation s l g v r′ q′ → (r ≡ r′) × (q ≡ q′)
+  pub one-trace : (l v : List ℤ) (g r q r′ q′ : ℕ) → ChecksTrace s l g v r q → ChecksTrace s l g v r′ q′ → (r ≡ r′) × (q ≡ q′)
+  pub one-model : (m : List ℕ) (r q n k r′ q′ n′ k′ : ℕ) (v v′ : List ℤ) → ChecksModel s m r q n k v → ChecksModel s m r′ q′ n′ k′ v′
+      → (r ≡ r′) × (q ≡ q′) × (n ≡ n′) × (k ≡ k′) × (v ≡ v′)
+  pub one-to-trace : (l v d e e′ : List ℤ) (g r q r′ q′ : ℕ) → GivesTrace s l g v d r q e → GivesTrace s l g v d r′ q′ e′ → (r ≡ r′) × (q ≡ q′) × (e ≡ e′)
+  pub one-to-derivation : (l v d e e′ : List ℤ) (g r q r′ q′ : ℕ) → GivesDerivation s l g v d r q e → GivesDerivation s l g v d r′ q′ e′
+      → (r ≡ r′) × (q ≡ q′) × (e ≡ e′)
+  pub one-text : (d e e′ : List ℕ) (r q r′ q′ : ℕ) → PrintsText s d r q e → PrintsText s d r′ q′ e′ → (r ≡ r′) × (q ≡ q′) × (e ≡ e′)
+  pub same-book : (r q : ℕ) (x : Reading) → ReadsBook s r q → ReadBook s x → (r ≡ bookNumber s x) × (q ≡ bookPlace s x)
+  pub same-constraint : (k r q : ℕ) (x : List ℕ) → Hands s k r q → ConstraintOf s k x → take r (drop q s) ≡ x
+  pub same-derivation : (l : List ℤ) (g : Fact) (r q : ℕ) (x : Answer) → ChecksDerivation s l (g .rel) (g .vals) r q → CheckDerivation s l g x
+      → (r ≡ checkNumber x) × (q ≡ checkPlace x)
+  pub same-trace : (l : List ℤ) (g : Fact) (r q : ℕ) (x : Answer) → ChecksTrace s l (g .rel) (g .vals) r q → CheckTrace s l g x
+      → (r ≡ checkNumber x) × (q ≡ checkPlace x)
+  pub same-model : (m : List ℕ) (r q n k : ℕ) (v : List ℤ) (x : Reply) → ChecksModel s m r q n k v → CheckModel s m x
+      → (r ≡ x .number) × (q ≡ x .place) × (n ≡ x .count) × (k ≡ x .clause) × (v ≡ x .values)
+  pub same-to-trace : (l d e f : List ℤ) (g : Fact) (r q : ℕ) (x : Converted) → GivesTrace s l (g .rel) (g .vals) d r q f → ToTrace s l g d x e
+      → (r ≡ conversionNumber x e) × (q ≡ conversionPlace x e) × (f ≡ e)
+  pub same-to-derivation : (l d e f : List ℤ) (g : Fact) (r q : ℕ) (x : Converted) → GivesDerivation s l (g .rel) (g .vals) d r q f → ToDerivation s l g d x e
+      → (r ≡ conversionNumber x e) × (q ≡ conversionPlace x e) × (f ≡ e)
+  pub same-text : (d e f : List ℕ) (r q : ℕ) (x : Printed) → PrintsText s d r q f → Print s d x e → (r ≡ printNumber x) × (q ≡ printPlace x) × (f ≡ e)
+
 pub record Demand1 (s : List ℕ) : Type 0 where
   -- ---- One reply. No contract of a call asks anything of the caller, so each replies to whatever it is lent; and no second reply keeps the
   -- same promise, nor leaves another room.
@@ -42,6 +69,8 @@ pub record Demand1 (s : List ℕ) : Type 0 where
   pub one-printing : (d e f : List ℕ) (x y : Printed) → Print s d x e → Print s d y f → (x ≡ y) × (e ≡ f)
   -- `book::record`, by which the other calls read clause k of an accepted book
   pub one-record : (h : Header) (k : ℕ) (x y : code.Clause) → Held s h k x → Held s h k y → x ≡ y
+  -- ---- The functions for C.
+  pub in-c : InC s
   -- ---- A refused book.
   pub book-refused : (n p : ℕ) → Refuses s n p → BookRefused s n p
   -- ---- The number alone tells acceptance: it is 0 there and nowhere else. (The model check: Demand 2.)

@@ -27,7 +27,9 @@ use Rattle.encode.specs.Stands.{Bytes}
 use Rattle.encode.specs.Small.{encode-bytes}
 use Rattle.encode.specs.Part.{part-written, constraint-some}
 use Rattle.encode.specs.Exact as exact
+use Rattle.lists.specs.Answer as lists
 use Rattle.lists.specs.Answer.{ok}
+use Rattle.lists.specs.Convert.{Reply}
 use Rattle.lists.specs.Derivation.{checkDerivation}
 use Rattle.lists.specs.Trace.{checkTrace}
 use Rattle.lists.specs.Exact.{checkDerivation-exact}
@@ -43,13 +45,16 @@ use Rattle.models.specs.Answer.{Answer, examine}
 use Rattle.models.specs.Main as models
 use Rattle.model.specs.Reply as replies
 use Rattle.model.specs.Exact as model
+use Rattle.convert.specs.declared.Converted.{Converted}
 use Rattle.convert.specs.Reply as conversions
 use Rattle.convert.specs.Calls as converted
 use Rattle.script.specs.Plain.{parse-text}
 use Rattle.text.specs.Reply as texts
 use Rattle.text.specs.Calls as printed
-use Rattle.demands.specs.Demands.{BookRefused, Demand1, Demand2, Demand3}
-use Rattle.demands.specs.Demands.Words.{Holds, Refuses, ReadBook, IsDerivation, IsTrace}
+use Rattle.kit.specs.Promises as kit
+use Rattle.kit.specs.Part.{part-handed}
+use Rattle.demands.specs.Demands.{BookRefused, InC, Demand1, Demand2, Demand3}
+use Rattle.demands.specs.Demands.Words.{Holds, Refuses, ReadBook, IsDerivation, IsTrace, conversionNumber, conversionPlace}
 
 -- ---- what the citations need
 
@@ -103,6 +108,46 @@ book-refused s n p q = record {
   print = λ d e x h. printed.book-refused s d x e h n p q;
 }
 
+-- a conversion's numbers in C are those of its reply
+same-converted : {s : List ℕ} {f : Book → Reply} {d e i : List ℤ} {r q : ℕ} {x : Converted}
+    → kit.Replies (conversions.replyOf (books.answer s) f d) r q i → conversions.Converts s f d x e
+    → (r ≡ conversionNumber x e) × (q ≡ conversionPlace x e) × (i ≡ e)
+same-converted {e = e} {x = x} u h =
+    let w = sym (h .tells) in (
+      u .number ∙ ap (λ (y : Reply). y .number) w,
+      u .place ∙ ap (λ (y : Reply). y .place) w,
+      u .room ∙ ap (λ (y : Reply). y .room) w ∙ conversions.room-said x e,
+    )
+
+in-c : (s : List ℕ) → InC s
+in-c s = record {
+  one-book = λ r q r′ q′. kit.one-told;
+  one-constraint = λ k r q r′ q′. kit.one-handed;
+  one-derivation = λ l v g r q r′ q′. kit.one-told;
+  one-trace = λ l v g r q r′ q′. kit.one-told;
+  one-model = λ m r q n k r′ q′ n′ k′ v v′. kit.one-weighed;
+  one-to-trace = λ l v d e e′ g r q r′ q′. kit.one-written;
+  one-to-derivation = λ l v d e e′ g r q r′ q′. kit.one-written;
+  one-text = λ d e e′ r q r′ q′. kit.one-written;
+  same-book = λ r q x u h. (u .number ∙ sym (ap books.number (h .tells)), u .place ∙ sym (ap books.place (h .tells)));
+  same-constraint = λ k r q x u h. part-handed u ∙ sym h;
+  same-derivation = λ l g r q x u h. (u .number ∙ sym (ap lists.number (h .tells)), u .place ∙ sym (ap lists.place (h .tells)));
+  same-trace = λ l g r q x u h. (u .number ∙ sym (ap lists.number (h .tells)), u .place ∙ sym (ap lists.place (h .tells)));
+  same-model = λ m r q n k v x u h.
+      let e = sym (h .tells) in (
+        u .number ∙ ap (λ (a : Answer). a .number) e,
+        u .place ∙ ap (λ (a : Answer). a .place) e,
+        u .count ∙ ap (λ (a : Answer). a .count) e,
+        u .clause ∙ ap (λ (a : Answer). a .clause) e,
+        u .values ∙ ap (λ (a : Answer). a .values) e,
+      );
+  same-to-trace = λ l d e f g r q x. same-converted;
+  same-to-derivation = λ l d e f g r q x. same-converted;
+  same-text = λ d e f r q x u h.
+      let w = sym (h .tells) in
+      (u .number ∙ ap (λ (o : texts.Outcome). o .number) w, u .place ∙ ap (λ (o : texts.Outcome). o .place) w, u .room ∙ sym (h .room));
+}
+
 -- ---- Demand 1: of any list of numbers
 
 pub demand-1 : (s : List ℕ) → Demand1 s
@@ -117,6 +162,7 @@ demand-1 s = record {
   one-derivation-written = λ l d e f g x y. conversions.unique s _ d x y e f;
   one-printing = λ d e f x y. texts.prints-unique;
   one-record = joined.one-record s;
+  in-c = in-c s;
   book-refused = book-refused s;
   zero-derivation = λ l g x h. checks.zero-accepted s _ x h (λ b. plain-derivation b (g .rel) (g .vals) l);
   zero-trace = λ l g x h. checks.zero-accepted s _ x h (λ b. plain-trace b flags (g .rel) (g .vals) l);

@@ -2,7 +2,7 @@
 ghost use mathlib.Core.Path.{_≡_};
 ghost use Prim.Native.Nat.{_<_};
 ghost use lib.ListN.{length, getD, take};
-ghost use Rattle.lists.specs.Derivation.{check as checkList, goal};
+ghost use Rattle.lists.specs.Derivation.{check as checkList, checkDerivation, goal};
 ghost use Rattle.book.specs.Read.{read};
 ghost use Rattle.book.specs.Meaning.{bookIn};
 ghost use Rattle.book.specs.declared.Reading.the-variants.{Good};
@@ -92,6 +92,26 @@ fn walk(
     ended(book, h, list, last, relation, values)
 }
 
+// 10 to 17: whether a list is a derivation of the goal in a book already read
+pub fn check_in(
+    book: &[u8],
+    h: book::Header,
+    list: &[i32],
+    relation: usize,
+    values: &[i32],
+) -> facts::Answer
+    requires { ⌜ read (now book) ≡ Good h ⌝ }
+    ensures { λ r. ⌜ r ≡ told (checkDerivation (bookIn (now (book .entry)) h) relation (now (values .entry)) (now (list .entry))) ⌝ }
+{
+    match facts::judged_goal(book, h, relation, values) {
+        facts::Answer::Refused(r) => facts::Answer::Refused(r),
+        facts::Answer::Accepted => match facts::judged_length(list) {
+            facts::Answer::Refused(r) => facts::Answer::Refused(r),
+            facts::Answer::Accepted => walk(book, h, list, relation, values),
+        },
+    }
+}
+
 // Whether a list is a derivation of the goal, a relation and its values, in the book that the bytes hold: the answer for any input.
 pub fn check(book: &[u8], list: &[i32], relation: usize, values: &[i32]) -> facts::Answer
     ensures { λ r. ⌜ Answers (answer (now (book .entry)) (now (list .entry)) relation (now (values .entry))) r ⌝ }
@@ -100,11 +120,5 @@ pub fn check(book: &[u8], list: &[i32], relation: usize, values: &[i32]) -> fact
     let book::Reading::Good(h) = read else {
         return facts::refused_by(read);
     };
-    match facts::judged_goal(book, h, relation, values) {
-        facts::Answer::Refused(r) => facts::Answer::Refused(r),
-        facts::Answer::Accepted => match facts::judged_length(list) {
-            facts::Answer::Refused(r) => facts::Answer::Refused(r),
-            facts::Answer::Accepted => walk(book, h, list, relation, values),
-        },
-    }
+    check_in(book, h, list, relation, values)
 }

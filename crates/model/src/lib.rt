@@ -74,7 +74,7 @@ fn try_clause(
                 values: values,
             };
         }
-        values = odometer::next_of(values, h, n);
+        odometer::advance(&mut values, h, n);
         left -= 1;
     }
     simply(0, 0, seen)

@@ -79,23 +79,21 @@ pub fn first_of(h: book::Header, n: usize) -> [i32; 16]
     values
 }
 
-// The next assignment of n variables: the last one up, or back to its low end and those before it up.
-pub fn next_of(values: [i32; 16], h: book::Header, n: usize) -> [i32; 16]
+// To the next assignment of n variables, in place: the last one up, or back to its low end and those before it up.
+pub fn advance(values: &mut [i32; 16], h: book::Header, n: usize)
     requires { ⌜ n ≤ 16 ⌝ }
-    ensures { λ r. ⌜ r ≡ up (windows h) n values ⌝ }
+    ensures { λ _. ⌜ now (values .exit) ≡ up (windows h) n (now (values .entry)) ⌝ }
 {
-    let mut vs = values;
     let mut i = n;
     while 0 < i {
         i -= 1;
-        let v = vs[i];
+        let v = values[i];
         if v < h.hi {
             let one = v + 1;
-            vs[i] = one;
-            return vs;
+            values[i] = one;
+            return;
         }
-        let lo = h.lo;
-        vs[i] = lo;
+        let low = h.lo;
+        values[i] = low;
     }
-    vs
 }

@@ -4,7 +4,7 @@ ghost use Prim.Native.Nat.{_+_, _<_, _≤_};
 ghost use lib.ListN.{length, getD};
 ghost use Rattle.meaning.specs.State as state;
 ghost use Rattle.lists.specs.Derivation.{goal};
-ghost use Rattle.lists.specs.Trace.{judgeFirst, firstOf, checkWalk};
+ghost use Rattle.lists.specs.Trace.{judgeFirst, firstOf, checkWalk, checkTrace};
 ghost use Rattle.lists.specs.Due.{walkDue};
 ghost use Rattle.book.specs.Read.{read};
 ghost use Rattle.book.specs.Meaning.{bookIn};
@@ -173,6 +173,26 @@ fn traced(
     }
 }
 
+// 10 to 19: whether a list is a trace that reaches the goal in the system of a book already read
+pub fn check_in(
+    book: &[u8],
+    h: book::Header,
+    list: &[i32],
+    relation: usize,
+    values: &[i32],
+) -> facts::Answer
+    requires { ⌜ read (now book) ≡ Good h ⌝ }
+    ensures { λ r. ⌜ r ≡ told (checkTrace (bookIn (now (book .entry)) h) state.flags relation (now (values .entry)) (now (list .entry))) ⌝ }
+{
+    match facts::judged_goal(book, h, relation, values) {
+        facts::Answer::Refused(r) => facts::Answer::Refused(r),
+        facts::Answer::Accepted => match facts::judged_length(list) {
+            facts::Answer::Refused(r) => facts::Answer::Refused(r),
+            facts::Answer::Accepted => traced(book, h, list, relation, values),
+        },
+    }
+}
+
 // Whether a list is a trace that reaches the goal, a relation and its values, in the system of the book that the bytes hold: the answer for any input.
 pub fn check(book: &[u8], list: &[i32], relation: usize, values: &[i32]) -> facts::Answer
     ensures { λ r. ⌜ Answers (answer (now (book .entry)) (now (list .entry)) relation (now (values .entry))) r ⌝ }
@@ -181,11 +201,5 @@ pub fn check(book: &[u8], list: &[i32], relation: usize, values: &[i32]) -> fact
     let book::Reading::Good(h) = read else {
         return facts::refused_by(read);
     };
-    match facts::judged_goal(book, h, relation, values) {
-        facts::Answer::Refused(r) => facts::Answer::Refused(r),
-        facts::Answer::Accepted => match facts::judged_length(list) {
-            facts::Answer::Refused(r) => facts::Answer::Refused(r),
-            facts::Answer::Accepted => traced(book, h, list, relation, values),
-        },
-    }
+    check_in(book, h, list, relation, values)
 }

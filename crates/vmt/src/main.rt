@@ -4,22 +4,11 @@
 ghost use Prim.Native.Nat.{_≤_};
 ghost use lib.ListN.{length};
 use libc::STDIN_FILENO;
-use libc::STDOUT_FILENO;
-
-fn wide(b: u8) -> usize {
-    b as usize
-}
-
-fn print(n: usize) {
-    io::print_decimal(STDOUT_FILENO, n as u64);
-}
 
 fn refuse(number: u8, place: usize) {
-    io::write_all(STDOUT_FILENO, b"refused ");
-    print(wide(number));
-    io::write_all(STDOUT_FILENO, b" at ");
-    print(place);
-    io::write_all(STDOUT_FILENO, b"\n");
+    console::write(b"refused ");
+    console::print_answer(number, place);
+    console::write(b"\n");
 }
 
 // What was written lies within the room.
@@ -32,7 +21,7 @@ fn within(n: usize, size: usize) -> usize
 fn write_front(room: &[u8], n: usize)
     requires { ⌜ n ≤ length (now room) ⌝ }
 {
-    io::write_all(STDOUT_FILENO, &room[..n]);
+    console::write(&room[..n]);
 }
 
 fn run(book: &[u8], room: &mut [u8]) {

@@ -1,44 +1,24 @@
 use borrow.Author.Needs.{needs}
 use Rattle.book.specs.Read.{constraintOf}
-use Rattle.book.specs.Trailer.{Trailed}
-use Rattle.book.proofs.Laws.{ways}
-use Rattle.book.proofs.Good.{by-book, good-room, good-entry}
+use Rattle.book.specs.Span.{Spans, spans-by}
 use Rattle.book.proofs.constraint_of.Statement.{statement}
 use Rattle.book.proofs.constraint_of.Tie as tie
 
--- what the accepted book tells
-known : (c : tie.After-h) → Trailed (c .before .before .before .before .args .book .now) (c .h .given .0 .0)
-known c = search by-book
+-- what the span tells
+known : (c : tie.After-constraint-span) → Spans (c .before .before .args .book .now) (c .constraint-span .result) (constraintOf (c .before .before .args .book .now) (c .before .before .args .k))
+known c = spans-by _ _ (c .constraint-span .ensures)
+
+sub-result : tie.Need-sub-result
+sub-result c = known c .ordered
+
+part-result-start : tie.Need-part-result-start
+part-result-start c = known c .ordered
+
+part-result-end : tie.Need-part-result-end
+part-result-end c = known c .inside
 
 returns : tie.Need-returns
-unfolding constraintOf
-returns c = search ways depth 14
-
-entry-requires : tie.Need-entry-requires
-entry-requires c κs = good-entry _ _ (known (c .before .before .before)) _ (c .if1 .taken)
-
-part-at-requires : tie.Need-part-at-requires
-part-at-requires c κs = let w = known (c .before .before .before .before) in (w .kept .room, good-room _ _ w)
-
-returns-2 : tie.Need-returns-2
-unfolding constraintOf
-returns-2 c = search ways depth 14
-
-returns-3 : tie.Need-returns-3
-unfolding constraintOf
-returns-3 c = search ways depth 14
+returns c = known (c .before) .part
 
 pub constraint-of-spec : {M : Type 1} → statement M
-constraint-of-spec =
-    tie.close
-    (tie.spec
-    (λ c κs. search needs)
-    (λ c. search needs)
-    (λ c. search needs)
-    (λ c. search needs)
-    returns
-    entry-requires
-    part-at-requires
-    (λ c. search needs)
-    returns-2
-    returns-3)
+constraint-of-spec = tie.close (tie.spec (λ c κs. search needs) sub-result part-result-start part-result-end returns)

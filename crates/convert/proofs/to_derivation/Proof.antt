@@ -1,32 +1,25 @@
 use borrow.Author.Needs.{needs}
-use mathlib.Core.Path.{sym, _∙_}
-use Rattle.book.specs.Meaning.{bookIn}
-use Rattle.convert.proofs.Laws.{replies-length, converts-good, converts-stop, trace-yes, trace-no, derivation-on, derivation-stop, trace-walk}
+use Rattle.convert.proofs.Laws.{replies-length, calls, accepted}
 use Rattle.convert.proofs.to_derivation.Statement.{statement}
 use Rattle.convert.proofs.to_derivation.Tie as tie
 
 returns : tie.Need-returns
-returns c = converts-stop _ _ _ (c .before .before .before .read-book .ensures .is) _ (c .before .enum-told .given .1) (c .refused-by .ensures)
+returns c = search calls
+
+check-in-requires : tie.Need-check-in-requires
+check-in-requires c κs = search accepted
 
 derived-requires : tie.Need-derived-requires
-derived-requires c κs =
-    let a = c .before .before .before .before .before .before .before .before .before .args in
-    trace-walk (a .book .now) (c .before .before .before .before .before .read .given .0 .0) (a .list .now) (a .relation) (a .values .now) (sym (c .before .before .before .before .before .before .before .read-book .ensures .is) ∙ c .before .before .before .before .before .read .given .1) (trace-yes (a .book .now) (c .before .before .before .before .before .read .given .0 .0) (a .list .now) (a .relation) (a .values .now) (c .before .before .before .before .before .before .before .read-book .ensures .is) (c .before .before .before .before .before .read .given .1) (c .before .before .before .check .ensures) (c .before .enum-told2 .given .1))
+derived-requires c κs = search accepted
 
 returns-2 : tie.Need-returns-2
-returns-2 c =
-    let a = c .before .before .before .before .before .before .before .before .before .args in
-    converts-good (a .book .now) _ (a .room .now) (c .before .before .before .before .before .before .before .read-book .ensures .is) (c .before .before .before .before .before .read .given .0 .0) _ _ (c .before .before .before .before .before .read .given .1)
-    (derivation-stop (bookIn (a .book .now) (c .before .before .before .before .before .read .given .0 .0)) (a .relation) (a .values .now) (a .list .now) (a .room .now) _ (trace-no (a .book .now) (c .before .before .before .before .before .read .given .0 .0) (a .list .now) (a .relation) (a .values .now) (c .before .before .before .before .before .before .before .read-book .ensures .is) (c .before .before .before .before .before .read .given .1) (c .before .before .before .check .ensures) (c .before .r .given .1)))
+returns-2 c = search calls
 
 same-length : tie.Need-same-length
 same-length c = replies-length _ _ _ (c .before .derived .ensures)
 
 returns-3 : tie.Need-returns-3
-returns-3 c =
-    let a = c .before .before .before .before .before .before .before .before .before .before .before .args in
-    converts-good (a .book .now) _ (a .room .now) (c .before .before .before .before .before .before .before .before .before .read-book .ensures .is) (c .before .before .before .before .before .before .before .read .given .0 .0) _ _ (c .before .before .before .before .before .before .before .read .given .1)
-    (derivation-on (bookIn (a .book .now) (c .before .before .before .before .before .before .before .read .given .0 .0)) (a .relation) (a .values .now) (a .list .now) (a .room .now) (trace-yes (a .book .now) (c .before .before .before .before .before .before .before .read .given .0 .0) (a .list .now) (a .relation) (a .values .now) (c .before .before .before .before .before .before .before .before .before .read-book .ensures .is) (c .before .before .before .before .before .before .before .read .given .1) (c .before .before .before .before .before .check .ensures) (c .before .before .before .enum-told2 .given .1)) (c .before .derived .ensures))
+returns-3 c = search calls
 
 pub to-derivation-spec : {M : Type 1} → statement M
 to-derivation-spec =
@@ -37,7 +30,7 @@ to-derivation-spec =
     (λ c. search needs)
     (λ c κs. search needs)
     returns
-    (λ c κs. search needs)
+    check-in-requires
     (λ c. search needs)
     (λ c. search needs)
     derived-requires

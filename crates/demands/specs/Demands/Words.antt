@@ -4,9 +4,10 @@ use mathlib.Core.Path.{_≡_}
 use mathlib.Core.List.{List, _++_}
 use lib.ListN.{length, take, drop}
 use lib.IntN.{ℤ}
+use Rattle.book.specs.Answer as books
 use Rattle.book.specs.Answer.{Answers, answer, accepted, refused}
 use Rattle.book.specs.Read.{constraintOf}
-use Rattle.lists.specs.Answer.{number}
+use Rattle.lists.specs.Answer.{number, place}
 use Rattle.facts.specs.Answer as facts
 use Rattle.derivation.specs.Answer as derivation
 use Rattle.trace.specs.Answer as trace
@@ -60,6 +61,8 @@ pub use Rattle.convert.specs.declared.Converted.the-variants.{Wrote}
 pub use Rattle.text.specs.declared.Printed.{Printed}
 pub use Rattle.text.specs.declared.Printed.the-variants as printings
 pub use Rattle.text.specs.declared.Printed.the-variants.{Written, Short}
+-- the promises of the functions for C: r is the number that one returns and q the place that it writes
+pub use Rattle.kit.specs.Promises.{ReadsBook, Hands, ChecksDerivation, ChecksTrace, ChecksModel, GivesTrace, GivesDerivation, PrintsText}
 
 -- ---- what document 01 says of the bytes s of a book
 
@@ -116,15 +119,30 @@ IsTrace s l g = CheckTrace s l g Accepted
 
 -- ---- replies and rooms
 
--- document 01's number of a check's reply, of a conversion's, and of the printer's
+-- document 01's number and place: of the reader's reply, of a check's, of a conversion's that left the room e, and of the printer's
+abbrev pub bookNumber : List ℕ → Reading → ℕ
+bookNumber s x = books.number (books.told s x)
+
+abbrev pub bookPlace : List ℕ → Reading → ℕ
+bookPlace s x = books.place (books.told s x)
+
 abbrev pub checkNumber : Answer → ℕ
 checkNumber x = number (facts.says x)
+
+abbrev pub checkPlace : Answer → ℕ
+checkPlace x = place (facts.says x)
 
 abbrev pub conversionNumber : Converted → List ℤ → ℕ
 conversionNumber x e = convert.says x e .number
 
+abbrev pub conversionPlace : Converted → List ℤ → ℕ
+conversionPlace x e = convert.says x e .place
+
 abbrev pub printNumber : Printed → ℕ
 printNumber x = texts.told x .number
+
+abbrev pub printPlace : Printed → ℕ
+printPlace x = texts.told x .place
 
 -- the room d became e: its first n numbers are what was written, and the rest are as before
 abbrev pub Front : {A : Type 0} (n : ℕ) (d e : List A) → Type 0

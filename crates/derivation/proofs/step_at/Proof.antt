@@ -10,15 +10,6 @@ slice-aggregate-same-fact c = search front-is
 same-fact-requires : tie.Need-same-fact-requires
 same-fact-requires c κs = (search body-seated, search needs)
 
-returns : tie.Need-returns
-returns c = search steps-laws
-
-returns-2 : tie.Need-returns-2
-returns-2 c = search steps-laws
-
-returns-3 : tie.Need-returns-3
-returns-3 c = search steps-laws
-
 pub step-at-spec : {M : Type 1} → statement M
 step-at-spec =
     tie.close
@@ -32,6 +23,6 @@ step-at-spec =
     same-fact-requires
     (λ c. search needs)
     (λ c κs. search needs)
-    returns
-    returns-2
-    returns-3)
+    (λ c. search steps-laws)
+    (λ c. search steps-laws)
+    (λ c. search steps-laws))

@@ -6,15 +6,6 @@ use Rattle.trace.proofs.step_at.Tie as tie
 meets-requires : tie.Need-meets-requires
 meets-requires c κs = (search needs, search body-known)
 
-returns : tie.Need-returns
-returns c = search steps-laws
-
-returns-2 : tie.Need-returns-2
-returns-2 c = search steps-laws
-
-returns-3 : tie.Need-returns-3
-returns-3 c = search steps-laws
-
 pub step-at-spec : {M : Type 1} → statement M
 step-at-spec =
     tie.close
@@ -27,6 +18,6 @@ step-at-spec =
     meets-requires
     (λ c. search needs)
     (λ c κs. search needs)
-    returns
-    returns-2
-    returns-3)
+    (λ c. search steps-laws)
+    (λ c. search steps-laws)
+    (λ c. search steps-laws))

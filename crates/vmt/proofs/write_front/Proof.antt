@@ -4,8 +4,8 @@ use borrow.Author.Needs.{needs}
 use Rattle.vmt.proofs.write_front.Statement.{statement}
 use Rattle.vmt.proofs.write_front.Tie as tie
 
-slice-aggregate-write-all : tie.Need-slice-aggregate-write-all
-slice-aggregate-write-all c = search fronts
+slice-aggregate-write : tie.Need-slice-aggregate-write
+slice-aggregate-write c = search fronts
 
 pub write-front-spec : {M : Type 1} → statement M
-write-front-spec = tie.close (tie.spec slice-aggregate-write-all (λ c κs. search needs) (λ c. search needs))
+write-front-spec = tie.close (tie.spec slice-aggregate-write (λ c κs. search needs) (λ c. search needs))

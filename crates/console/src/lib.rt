@@ -1,0 +1,166 @@
+// What the programs read from standard input and write to standard output.
+ghost use Prim.Native.Nat.{_≤_, _<_};
+use libc::STDIN_FILENO;
+use libc::STDOUT_FILENO;
+
+// ---- to standard output
+
+fn wide(b: u8) -> usize
+    ensures { λ r. ⌜ r < 256 ⌝ }
+{
+    b as usize
+}
+
+pub fn write(text: &[u8]) {
+    io::write_all(STDOUT_FILENO, text);
+}
+
+pub fn print(n: usize) {
+    io::print_decimal(STDOUT_FILENO, n as u64);
+}
+
+pub fn print_answer(number: u8, place: usize) {
+    print(wide(number));
+    write(b" at ");
+    print(place);
+}
+
+// The checksum of what came before, and one byte more.
+fn summed(sum: usize, b: u8) -> usize
+    requires { ⌜ sum < 65521 ⌝ }
+    ensures { λ r. ⌜ r < 65521 ⌝ }
+{
+    (sum * 257 + wide(b)) % 65521
+}
+
+fn checksum(part: &[u8]) -> usize {
+    let mut sum = 0;
+    let mut i = 0;
+    while i < part.len() {
+        sum = summed(sum, part[i]);
+        i += 1;
+    }
+    sum
+}
+
+// A part of a room or a book, as its length and a checksum of its bytes.
+pub fn print_sum(part: &[u8]) {
+    write(b" ");
+    print(part.len());
+    write(b":");
+    print(checksum(part));
+}
+
+// ---- from standard input: bytes, and numbers of four bytes, little-endian
+
+// Whether the whole room could be filled.
+pub fn filled(room: &mut [u8]) -> bool {
+    io::read_full(STDIN_FILENO, room) == room.len()
+}
+
+// Puts n bytes into the front of the room.
+pub fn put_bytes(room: &mut [u8], n: usize)
+    requires { do ⌜ n ≤ (← ⟦room.len()⟧) ⌝ }
+{
+    io::read_full(STDIN_FILENO, &mut room[..n]);
+}
+
+fn number(b: &[u8; 4]) -> usize
+    ensures { λ r. ⌜ r < 4294967296 ⌝ }
+{
+    wide(b[0]) + wide(b[1]) * 256 + wide(b[2]) * 65536 + wide(b[3]) * 16777216
+}
+
+// The next length. At the end of the input it is one that no room has.
+pub fn next_length() -> usize {
+    let mut bytes = [0u8; 4];
+    if filled(&mut bytes) {
+        return number(&bytes);
+    }
+    usize::MAX
+}
+
+// The next number; 0 where the input ends before.
+pub fn next() -> usize
+    ensures { λ r. ⌜ r < 4294967296 ⌝ }
+{
+    let mut bytes = [0u8; 4];
+    io::read_full(STDIN_FILENO, &mut bytes);
+    number(&bytes)
+}
+
+// A number of eight bytes.
+pub fn next_long() -> usize {
+    let low = next();
+    let high = next();
+    low + high * 4294967296
+}
+
+// The number as it stands in a list: two's complement.
+fn signed(n: usize) -> i32
+    requires { ⌜ n < 4294967296 ⌝ }
+{
+    if n < 2147483648 {
+        return n as i32;
+    }
+    !((4294967295 - n) as i32)
+}
+
+// ---- lists, in pieces: how many numbers are written of a piece, how many it has, and those written, with which it goes on over again
+
+// Puts `count` numbers of the input behind the first `at` of the room, as far as it goes; gives where they end.
+pub fn put_written(room: &mut [i32], at: usize, count: usize) -> usize
+    requires { do ⌜ at ≤ (← ⟦room.len()⟧) ⌝ }
+    ensures { λ r. do ⌜ r ≤ (← ⟦room.len()⟧ .entry) ⌝ }
+{
+    let mut end = at;
+    let mut left = count;
+    while left > 0 && end < room.len() {
+        room[end] = signed(next());
+        end += 1;
+        left -= 1;
+    }
+    end
+}
+
+// Goes on for `more` numbers with the `count` that stand before `at`, over again; gives where they end.
+fn put_again(room: &mut [i32], at: usize, count: usize, more: usize) -> usize
+    requires { do ⌜ at ≤ (← ⟦room.len()⟧) ⌝ }
+    ensures { λ r. do ⌜ r ≤ (← ⟦room.len()⟧ .entry) ⌝ }
+{
+    let mut end = at;
+    let mut left = more;
+    while left > 0 && end < room.len() && count <= end {
+        room[end] = room[end - count];
+        end += 1;
+        left -= 1;
+    }
+    end
+}
+
+// Puts the next piece behind the first `at` numbers of the room.
+fn put_piece(room: &mut [i32], at: usize) -> usize
+    requires { do ⌜ at ≤ (← ⟦room.len()⟧) ⌝ }
+    ensures { λ r. do ⌜ r ≤ (← ⟦room.len()⟧ .entry) ⌝ }
+{
+    let count = next();
+    let all = next();
+    let end = put_written(room, at, count);
+    if all <= count {
+        return end;
+    }
+    put_again(room, end, count, all - count)
+}
+
+// Puts the next list into the room: how many pieces it has, and these; gives its length.
+pub fn put_list(room: &mut [i32]) -> usize
+    ensures { λ r. do ⌜ r ≤ (← ⟦room.len()⟧ .entry) ⌝ }
+{
+    let mut end = 0;
+    let mut left = next();
+    while left > 0 {
+        end = put_piece(room, end);
+        left -= 1;
+    }
+    end
+}
