@@ -1,5 +1,6 @@
--- The demands on the kit, in document 01's words. Read this file first: three records of statements, a sentence before each.
--- `Theorems` beside it proves them: demand-1 for every list of numbers s, demand-2 for all bytes s, demand-3 for all bytes s that hold a book b.
+-- The demands on the kit, in document 01's words. Read this file first: records of statements, a sentence before each.
+-- `Theorems` beside it proves them: demand-1 and demand-1-in-c for every list of numbers s, demand-2 for all bytes s, demand-3 for all bytes s that
+-- hold a book b.
 -- The words and the calls' names are in `Words`, and lead to what they mean; `Table` has document 01's cases; docs/READING.md explains the symbols.
 -- `Bytes s`: every number of s is below 256, as in whatever a program lends as bytes.
 use Prim.Native.Nat.{ℕ, _<_, _≤_, _^_}
@@ -18,7 +19,7 @@ use Words.*
 
 -- A refused book, with number n at place p, ends every call with that refusal; a room is as it was, and the part handed out is empty.
 pub record BookRefused (s : List ℕ) (n p : ℕ) : Type 0 where
-  -- the number is one of 1 to 8: never 0, and never that of another call's refusal
+  -- the number is one of 1 to 8: never 0, and never that of a refusal for another cause
   pub number : (1 ≤ n) × (n ≤ 8)
   pub reading : (x : Reading) → ReadBook s x → x ≡ readings.Refused (refuse n p)
   pub part : (k : ℕ) (x : List ℕ) → ConstraintOf s k x → x ≡ []
@@ -30,8 +31,47 @@ pub record BookRefused (s : List ℕ) (n p : ℕ) : Type 0 where
   pub to-derivation : (l d e : List ℤ) (g : Fact) (x : Converted) → ToDerivation s l g d x e → (x ≡ conversions.Refused (refuse n p)) × (e ≡ d)
   pub print : (d e : List ℕ) (x : Printed) → Print s d x e → (x ≡ printings.Refused (refuse n p)) × (e ≡ d)
 
--- The functions for C: what each returns and writes is settled, and is the reply of the call that it stands for.
+pub record Demand1 (s : List ℕ) : Type 0 where
+  -- ---- One reply ------------------------------------------------------------------------------------------
+  -- No contract of a call asks anything of the caller, so each replies to whatever it is lent; and no second reply keeps the same
+  -- promise, nor leaves another room.
+  pub one-reading : (x y : Reading) → ReadBook s x → ReadBook s y → x ≡ y
+  pub one-part : (k : ℕ) (x y : List ℕ) → ConstraintOf s k x → ConstraintOf s k y → x ≡ y
+  pub one-derivation-answer : (l : List ℤ) (g : Fact) (x y : Answer) → CheckDerivation s l g x → CheckDerivation s l g y → x ≡ y
+  pub one-trace-answer : (l : List ℤ) (g : Fact) (x y : Answer) → CheckTrace s l g x → CheckTrace s l g y → x ≡ y
+  pub one-model-reply : (m : List ℕ) (x y : Reply) → CheckModel s m x → CheckModel s m y → x ≡ y
+  pub one-trace-written : (l d e f : List ℤ) (g : Fact) (x y : Converted) → ToTrace s l g d x e → ToTrace s l g d y f → (x ≡ y) × (e ≡ f)
+  pub one-derivation-written : (l d e f : List ℤ) (g : Fact) (x y : Converted) → ToDerivation s l g d x e → ToDerivation s l g d y f → (x ≡ y) × (e ≡ f)
+  pub one-printing : (d e f : List ℕ) (x y : Printed) → Print s d x e → Print s d y f → (x ≡ y) × (e ≡ f)
+  -- `book::record`, by which the other calls read clause k of a book that they have accepted
+  pub one-record : (h : Header) (k : ℕ) (x y : code.Clause) → Held s h k x → Held s h k y → x ≡ y
+  -- ---- A refused book -------------------------------------------------------------------------------------
+  pub book-refused : (n p : ℕ) → Refuses s n p → BookRefused s n p
+  -- ---- By number ------------------------------------------------------------------------------------------
+  -- The number alone tells acceptance: it is 0 there and nowhere else. For the model check, see Demand 2.
+  pub zero-derivation : (l : List ℤ) (g : Fact) (x : Answer) → CheckDerivation s l g x → checkNumber x ≡ 0 → x ≡ Accepted
+  pub zero-trace : (l : List ℤ) (g : Fact) (x : Answer) → CheckTrace s l g x → checkNumber x ≡ 0 → x ≡ Accepted
+  pub zero-to-trace : (l d e : List ℤ) (g : Fact) (x : Converted) → ToTrace s l g d x e → conversionNumber x e ≡ 0 → (n : ℕ) × (x ≡ Wrote n)
+  pub zero-to-derivation : (l d e : List ℤ) (g : Fact) (x : Converted) → ToDerivation s l g d x e → conversionNumber x e ≡ 0 → (n : ℕ) × (x ≡ Wrote n)
+  pub zero-print : (d e : List ℕ) (x : Printed) → Print s d x e → printNumber x ≡ 0 → (n : ℕ) × (x ≡ Written n)
+  -- ---- Rooms ----------------------------------------------------------------------------------------------
+  -- A refusal leaves the room as it was; success writes its front, and the rest keeps its numbers.
+  pub to-trace-refused : (l d e : List ℤ) (g : Fact) (r : Refusal) → ToTrace s l g d (conversions.Refused r) e → e ≡ d
+  pub to-trace-wrote : (l d e : List ℤ) (g : Fact) (n : ℕ) → ToTrace s l g d (Wrote n) e → Front n d e
+  pub to-derivation-refused : (l d e : List ℤ) (g : Fact) (r : Refusal) → ToDerivation s l g d (conversions.Refused r) e → e ≡ d
+  pub to-derivation-wrote : (l d e : List ℤ) (g : Fact) (n : ℕ) → ToDerivation s l g d (Wrote n) e → Front n d e
+  pub print-refused : (d e : List ℕ) (r : Refusal) → Print s d (printings.Refused r) e → e ≡ d
+  pub print-short : (d e : List ℕ) (n : ℕ) → Print s d (Short n) e → e ≡ d
+  pub print-written : (d e : List ℕ) (n : ℕ) → Print s d (Written n) e → Front n d e
+  -- ---- Parts ----------------------------------------------------------------------------------------------
+  -- What is handed out for clause k is empty if there is no such clause, and not empty if there is.
+  pub part-absent : (b : Book) → Holds s b → (k : ℕ) (x : List ℕ) → ConstraintOf s k x → length (b .clauses) ≤ k → x ≡ []
+  pub part-present : Bytes s → (b : Book) → Holds s b → (k : ℕ) (x : List ℕ) → ConstraintOf s k x → k < length (b .clauses) → 0 < length x
+
+-- ==== Demand 1 for C: what each function returns and writes is settled, and is the reply of the call that it stands for
+
 pub record InC (s : List ℕ) : Type 0 where
+  -- ---- One outcome -----------------------------------------------------------------------------------
   pub one-book : (r q r′ q′ : ℕ) → ReadsBook s r q → ReadsBook s r′ q′ → (r ≡ r′) × (q ≡ q′)
   pub one-constraint : (k r q r′ q′ : ℕ) → Hands s k r q → Hands s k r′ q′ → (r ≡ r′) × (q ≡ q′)
   pub one-derivation : (l v : List ℤ) (g r q r′ q′ : ℕ) → ChecksDerivation s l g v r q → ChecksDerivation s l g v r′ q′ → (r ≡ r′) × (q ≡ q′)
@@ -42,6 +82,7 @@ pub record InC (s : List ℕ) : Type 0 where
   pub one-to-derivation : (l v d e e′ : List ℤ) (g r q r′ q′ : ℕ) → GivesDerivation s l g v d r q e → GivesDerivation s l g v d r′ q′ e′
       → (r ≡ r′) × (q ≡ q′) × (e ≡ e′)
   pub one-text : (d e e′ : List ℕ) (r q r′ q′ : ℕ) → PrintsText s d r q e → PrintsText s d r′ q′ e′ → (r ≡ r′) × (q ≡ q′) × (e ≡ e′)
+  -- ---- The same reply ---------------------------------------------------------------------------------
   pub same-book : (r q : ℕ) (x : Reading) → ReadsBook s r q → ReadBook s x → (r ≡ bookNumber s x) × (q ≡ bookPlace s x)
   pub same-constraint : (k r q : ℕ) (x : List ℕ) → Hands s k r q → ConstraintOf s k x → take r (drop q s) ≡ x
   pub same-derivation : (l : List ℤ) (g : Fact) (r q : ℕ) (x : Answer) → ChecksDerivation s l (g .rel) (g .vals) r q → CheckDerivation s l g x
@@ -56,45 +97,10 @@ pub record InC (s : List ℕ) : Type 0 where
       → (r ≡ conversionNumber x e) × (q ≡ conversionPlace x e) × (f ≡ e)
   pub same-text : (d e f : List ℕ) (r q : ℕ) (x : Printed) → PrintsText s d r q f → Print s d x e → (r ≡ printNumber x) × (q ≡ printPlace x) × (f ≡ e)
 
-pub record Demand1 (s : List ℕ) : Type 0 where
-  -- ---- One reply. No contract of a call asks anything of the caller, so each replies to whatever it is lent; and no second reply keeps the
-  -- same promise, nor leaves another room.
-  pub one-reading : (x y : Reading) → ReadBook s x → ReadBook s y → x ≡ y
-  pub one-part : (k : ℕ) (x y : List ℕ) → ConstraintOf s k x → ConstraintOf s k y → x ≡ y
-  pub one-derivation-answer : (l : List ℤ) (g : Fact) (x y : Answer) → CheckDerivation s l g x → CheckDerivation s l g y → x ≡ y
-  pub one-trace-answer : (l : List ℤ) (g : Fact) (x y : Answer) → CheckTrace s l g x → CheckTrace s l g y → x ≡ y
-  pub one-model-reply : (m : List ℕ) (x y : Reply) → CheckModel s m x → CheckModel s m y → x ≡ y
-  pub one-trace-written : (l d e f : List ℤ) (g : Fact) (x y : Converted) → ToTrace s l g d x e → ToTrace s l g d y f → (x ≡ y) × (e ≡ f)
-  pub one-derivation-written : (l d e f : List ℤ) (g : Fact) (x y : Converted) → ToDerivation s l g d x e → ToDerivation s l g d y f → (x ≡ y) × (e ≡ f)
-  pub one-printing : (d e f : List ℕ) (x y : Printed) → Print s d x e → Print s d y f → (x ≡ y) × (e ≡ f)
-  -- `book::record`, by which the other calls read clause k of an accepted book
-  pub one-record : (h : Header) (k : ℕ) (x y : code.Clause) → Held s h k x → Held s h k y → x ≡ y
-  -- ---- The functions for C.
-  pub in-c : InC s
-  -- ---- A refused book.
-  pub book-refused : (n p : ℕ) → Refuses s n p → BookRefused s n p
-  -- ---- The number alone tells acceptance: it is 0 there and nowhere else. (The model check: Demand 2.)
-  pub zero-derivation : (l : List ℤ) (g : Fact) (x : Answer) → CheckDerivation s l g x → checkNumber x ≡ 0 → x ≡ Accepted
-  pub zero-trace : (l : List ℤ) (g : Fact) (x : Answer) → CheckTrace s l g x → checkNumber x ≡ 0 → x ≡ Accepted
-  pub zero-to-trace : (l d e : List ℤ) (g : Fact) (x : Converted) → ToTrace s l g d x e → conversionNumber x e ≡ 0 → (n : ℕ) × (x ≡ Wrote n)
-  pub zero-to-derivation : (l d e : List ℤ) (g : Fact) (x : Converted) → ToDerivation s l g d x e → conversionNumber x e ≡ 0 → (n : ℕ) × (x ≡ Wrote n)
-  pub zero-print : (d e : List ℕ) (x : Printed) → Print s d x e → printNumber x ≡ 0 → (n : ℕ) × (x ≡ Written n)
-  -- ---- Rooms. A refusal leaves the room as it was; success writes its front, and the rest keeps its numbers.
-  pub to-trace-refused : (l d e : List ℤ) (g : Fact) (r : Refusal) → ToTrace s l g d (conversions.Refused r) e → e ≡ d
-  pub to-trace-wrote : (l d e : List ℤ) (g : Fact) (n : ℕ) → ToTrace s l g d (Wrote n) e → Front n d e
-  pub to-derivation-refused : (l d e : List ℤ) (g : Fact) (r : Refusal) → ToDerivation s l g d (conversions.Refused r) e → e ≡ d
-  pub to-derivation-wrote : (l d e : List ℤ) (g : Fact) (n : ℕ) → ToDerivation s l g d (Wrote n) e → Front n d e
-  pub print-refused : (d e : List ℕ) (r : Refusal) → Print s d (printings.Refused r) e → e ≡ d
-  pub print-short : (d e : List ℕ) (n : ℕ) → Print s d (Short n) e → e ≡ d
-  pub print-written : (d e : List ℕ) (n : ℕ) → Print s d (Written n) e → Front n d e
-  -- ---- Parts. What is handed out for clause k is empty if there is no such clause, and not empty if there is.
-  pub part-absent : (b : Book) → Holds s b → (k : ℕ) (x : List ℕ) → ConstraintOf s k x → length (b .clauses) ≤ k → x ≡ []
-  pub part-present : Bytes s → (b : Book) → Holds s b → (k : ℕ) (x : List ℕ) → ConstraintOf s k x → k < length (b .clauses) → 0 < length x
-
 -- ==== Demand 2: the calls accept exactly what document 01's meaning of a clause allows, and print that translation
 
 pub record Demand2 (s : List ℕ) : Type 0 where
-  -- ---- The book.
+  -- ---- The book -------------------------------------------------------------------------------------------
   -- it is accepted exactly when it is the writing of a book within the limits, of at most 60,000 bytes
   pub read-exactly : (x : Reading) → ReadBook s x
       → ((h : Header) × (x ≡ readings.Good h)) ↔ ((b : Book) × (encode b ≡ s) × Limits b × (length s ≤ 60000))
@@ -107,7 +113,8 @@ pub record Demand2 (s : List ℕ) : Type 0 where
   -- the part handed out for clause k is the writing of its constraint
   pub part-is-constraint : (b : Book) → Holds s b → (k : ℕ) (x : List ℕ) → ConstraintOf s k x → k < length (b .clauses)
       → x ≡ constraintBytes (getD (b .clauses) k none-such .rule)
-  -- ---- Derivations and traces. `Asked`: the goal fits the book, and the list has 1 to 1,000,000 numbers.
+  -- ---- Derivations and traces -----------------------------------------------------------------------------
+  -- `Asked`: the goal fits the book, and the list has 1 to 1,000,000 numbers.
   -- accepted exactly when the list is the numbers of a derivation d of the goal in the book that the bytes hold
   pub derivation-exact : (l : List ℤ) (g : Fact) (x : Answer) → CheckDerivation s l g x
       → (x ≡ Accepted) ↔ ((b : Book) × Holds s b × Asked b (g .rel) (g .vals) l × (d : List Step) × (numbers d ≡ l) × Derives b d g)
@@ -123,7 +130,7 @@ pub record Demand2 (s : List ℕ) : Type 0 where
   pub bodiless-anywhere : (b : Book) → Holds s b → (t : Step) (σ : State flags) → length (σ .ctl) ≡ length (b .arities) → length (σ .rows) ≡ length (b .arities)
       → Instance b t → body b t ≡ none → (σ′ : State flags) × StepsTo b t σ σ′
   pub body-kept : (b : Book) (t : Step) (σ σ′ : State flags) (f : Fact) → StepsTo b t σ σ′ → body b t ≡ some f → getD (σ′ .ctl) (f .rel) false ≡ true
-  -- ---- Models.
+  -- ---- Models ---------------------------------------------------------------------------------------------
   -- accepted exactly when the bytes are the writing of one constraint for each relation, they are a model, and there are at most a million assignments
   pub model-exact : (m : List ℕ) → Bytes m → (x : Reply) → CheckModel s m x
       → (x .number ≡ 0) ↔ ((b : Book) × Holds s b × (ts : List Constraint) × Fit (b .arities) ts × (m ≡ spell constraintBytes ts) × Model b ts × (total b ≤ 1000000))
@@ -133,7 +140,7 @@ pub record Demand2 (s : List ℕ) : Type 0 where
   -- 25 names the first broken instance t, and the count is its position in document 01's order (`brokenAt`)
   pub first-broken : (m : List ℕ) → Bytes m → (x : Reply) → CheckModel s m x → (b : Book) → Holds s b → x .number ≡ 25
       → (ts : List Constraint) × (t : Step) × (m ≡ spell constraintBytes ts) × FirstBroken b ts t × (told x ≡ brokenAt b t)
-  -- ---- The text.
+  -- ---- The text -------------------------------------------------------------------------------------------
   -- a room that holds it gets the text of the book, character for character; for a shorter one the reply is the needed length
   pub text-written : (b : Book) → Holds s b → (d e : List ℕ) (x : Printed) → Print s d x e → length (text b) ≤ length d
       → (x ≡ Written (length (text b))) × (e ≡ text b ++ drop (length (text b)) d)
@@ -144,7 +151,7 @@ pub record Demand2 (s : List ℕ) : Type 0 where
 -- ==== Demand 3: what is derived is reached, and the other way
 
 pub record Demand3 (s : List ℕ) (b : Book) : Type 0 where
-  -- ---- On the meaning: derivations and traces of any length.
+  -- ---- On the meaning: derivations and traces of any length -----------------------------------------------
   -- a fact is derivable exactly when some trace ends with that relation's flag set and those values in its places
   pub derivable-iff-reached : (f : Fact) → Derivable b f ↔ Reachable b (Flagged b) f
   -- from whichever initial state
@@ -159,7 +166,7 @@ pub record Demand3 (s : List ℕ) (b : Book) : Type 0 where
   -- over and back is the same derivation
   pub over-and-back : (d : List Step) (f : Fact) → Derives b d f
       → lastWriters b (f .rel) (steps b (Flagged b) (moves b (Flagged b) (first b flags) d)) ≡ d
-  -- ---- On the conversions: `asTrace` and `asDerivation` are these two as lists of numbers.
+  -- ---- On the conversions: `asTrace` and `asDerivation` are those two as lists of numbers -----------------
   -- a trace is written exactly when the derivation is accepted, and a million numbers and the room hold the trace
   pub to-trace-exact : (l d e : List ℤ) (g : Fact) (x : Converted) → ToTrace s l g d x e
       → ((n : ℕ) × (x ≡ Wrote n)) ↔ (IsDerivation s l g × (length (asTrace b flags l) ≤ 1000000) × (length (asTrace b flags l) ≤ length d))
@@ -177,7 +184,7 @@ pub record Demand3 (s : List ℕ) (b : Book) : Type 0 where
       → ToDerivation s (take n e) g d′ x e′ → (x ≡ Wrote (length l)) × (take (length l) e′ ≡ l)
   -- some list is accepted as a trace exactly when one is accepted as a derivation whose trace a million numbers hold
   pub either-way : (g : Fact) → ((l : List ℤ) × IsTrace s l g) ↔ ((l : List ℤ) × IsDerivation s l g × (length (asTrace b flags l) ≤ 1000000))
-  -- ---- On models.
+  -- ---- On models ------------------------------------------------------------------------------------------
   -- once there is a model, neither a derivation of the query nor a trace to it exists, of any length
   pub model-excludes : (ts : List Constraint) → Model b ts → (¬ Derivable b (query b)) × (¬ Reachable b (Flagged b) (query b))
   -- and so once the model check has replied 0; no list is accepted for the query then

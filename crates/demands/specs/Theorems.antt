@@ -1,4 +1,4 @@
--- The demands hold: demand-1, demand-2 and demand-3, the last three below. Their proofs are cited from the crates that the calls stand in.
+-- The demands hold: demand-1, demand-1-in-c, demand-2 and demand-3. Their proofs are cited from the crates that the calls stand in.
 use Prim.Native.Nat.{ℕ}
 use mathlib.Core.Path.{_≡_, refl, sym, ap, _∙_}
 use mathlib.Core.Logic.{_↔_}
@@ -119,8 +119,39 @@ same-converted {e = e} {x = x} u h =
       u .room ∙ ap (λ (y : Reply). y .room) w ∙ conversions.room-said x e,
     )
 
-in-c : (s : List ℕ) → InC s
-in-c s = record {
+-- ---- Demand 1: of any list of numbers
+
+pub demand-1 : (s : List ℕ) → Demand1 s
+unfolding derivation.answer trace.answer
+demand-1 s = record {
+  one-reading = λ x y h k. h .is ∙ sym (k .is);
+  one-part = λ k x y h j. h ∙ sym j;
+  one-derivation-answer = λ l g. derivation.unique s l (g .rel) (g .vals);
+  one-trace-answer = λ l g. trace.unique s l (g .rel) (g .vals);
+  one-model-reply = λ m x y. replies.only;
+  one-trace-written = λ l d e f g x y. conversions.unique s _ d x y e f;
+  one-derivation-written = λ l d e f g x y. conversions.unique s _ d x y e f;
+  one-printing = λ d e f x y. texts.prints-unique;
+  one-record = joined.one-record s;
+  book-refused = book-refused s;
+  zero-derivation = λ l g x h. checks.zero-accepted s _ x h (λ b. plain-derivation b (g .rel) (g .vals) l);
+  zero-trace = λ l g x h. checks.zero-accepted s _ x h (λ b. plain-trace b flags (g .rel) (g .vals) l);
+  zero-to-trace = λ l d e g x. converted.zero-wrote s _ d x e;
+  zero-to-derivation = λ l d e g x. converted.zero-wrote s _ d x e;
+  zero-print = λ d e x. printed.zero-written s d e x;
+  to-trace-refused = λ l d e g r. converted.to-trace-kept s (g .rel) (g .vals) l d r e;
+  to-trace-wrote = λ l d e g n. converted.to-trace-front s (g .rel) (g .vals) l d n e;
+  to-derivation-refused = λ l d e g r. converted.to-derivation-kept s (g .rel) (g .vals) l d r e;
+  to-derivation-wrote = λ l d e g n. converted.to-derivation-front s (g .rel) (g .vals) l d n e;
+  print-refused = λ d e r. printed.refused-kept s d e r;
+  print-short = λ d e n. printed.short-kept s d e n;
+  print-written = λ d e n. printed.written-front s d e n;
+  part-absent = λ b held k x h far. h ∙ accepted.part-absent s b held k far;
+  part-present = λ bytes b held k x h below. rw (h ∙ part-written s bytes b held k below) (constraint-some _);
+}
+
+pub demand-1-in-c : (s : List ℕ) → InC s
+demand-1-in-c s = record {
   one-book = λ r q r′ q′. kit.one-told;
   one-constraint = λ k r q r′ q′. kit.one-handed;
   one-derivation = λ l v g r q r′ q′. kit.one-told;
@@ -146,38 +177,6 @@ in-c s = record {
   same-text = λ d e f r q x u h.
       let w = sym (h .tells) in
       (u .number ∙ ap (λ (o : texts.Outcome). o .number) w, u .place ∙ ap (λ (o : texts.Outcome). o .place) w, u .room ∙ sym (h .room));
-}
-
--- ---- Demand 1: of any list of numbers
-
-pub demand-1 : (s : List ℕ) → Demand1 s
-unfolding derivation.answer trace.answer
-demand-1 s = record {
-  one-reading = λ x y h k. h .is ∙ sym (k .is);
-  one-part = λ k x y h j. h ∙ sym j;
-  one-derivation-answer = λ l g. derivation.unique s l (g .rel) (g .vals);
-  one-trace-answer = λ l g. trace.unique s l (g .rel) (g .vals);
-  one-model-reply = λ m x y. replies.only;
-  one-trace-written = λ l d e f g x y. conversions.unique s _ d x y e f;
-  one-derivation-written = λ l d e f g x y. conversions.unique s _ d x y e f;
-  one-printing = λ d e f x y. texts.prints-unique;
-  one-record = joined.one-record s;
-  in-c = in-c s;
-  book-refused = book-refused s;
-  zero-derivation = λ l g x h. checks.zero-accepted s _ x h (λ b. plain-derivation b (g .rel) (g .vals) l);
-  zero-trace = λ l g x h. checks.zero-accepted s _ x h (λ b. plain-trace b flags (g .rel) (g .vals) l);
-  zero-to-trace = λ l d e g x. converted.zero-wrote s _ d x e;
-  zero-to-derivation = λ l d e g x. converted.zero-wrote s _ d x e;
-  zero-print = λ d e x. printed.zero-written s d e x;
-  to-trace-refused = λ l d e g r. converted.to-trace-kept s (g .rel) (g .vals) l d r e;
-  to-trace-wrote = λ l d e g n. converted.to-trace-front s (g .rel) (g .vals) l d n e;
-  to-derivation-refused = λ l d e g r. converted.to-derivation-kept s (g .rel) (g .vals) l d r e;
-  to-derivation-wrote = λ l d e g n. converted.to-derivation-front s (g .rel) (g .vals) l d n e;
-  print-refused = λ d e r. printed.refused-kept s d e r;
-  print-short = λ d e n. printed.short-kept s d e n;
-  print-written = λ d e n. printed.written-front s d e n;
-  part-absent = λ b held k x h far. h ∙ accepted.part-absent s b held k far;
-  part-present = λ bytes b held k x h below. rw (h ∙ part-written s bytes b held k below) (constraint-some _);
 }
 
 -- ---- Demand 2: of all bytes
