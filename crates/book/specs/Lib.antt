@@ -3,6 +3,8 @@ pub mod Span
 pub mod Meaning
 pub mod Answer
 pub mod Joined
+pub mod Numbers
+pub mod Accepted
 pub mod Laid
 pub mod Trailer
 pub mod Example

@@ -7,7 +7,7 @@ use native.Mathlib.Omega.{arith}
 use lib.ListN.{length, take, drop}
 use lib.Seq.{take-append-seam}
 use lib.IntN.{ℤ}
-use borrow.Author.Tests.{eq-eqb}
+use borrow.Author.Tests.{eq-eqb, eqb-false}
 use Rattle.meaning.specs.Book.{Book}
 use Rattle.meaning.specs.Limits.{Limits}
 use Rattle.meaning.specs.State.{flags}
@@ -20,7 +20,9 @@ use Rattle.lists.specs.Converted.{asTrace-accepted, as-many-steps, over-and-bac
 use Rattle.lists.specs.Replies.{wrote, toTrace-exact, toTrace-wrote, toTrace-kept, toDerivation-exact, toDerivation-wrote, toDerivation-kept}
 use Rattle.cursor.specs.declared.Refusal.{Refusal}
 use Rattle.cursor.specs.Steps.{pick}
+use Rattle.cursor.specs.Inverse.{pick-by}
 use Rattle.book.specs.Answer as books
+use Rattle.book.specs.Numbers.{refused-number}
 use Rattle.encode.specs.Stands.{Bytes}
 use Rattle.encode.specs.Exact.{accepted-is-written}
 use Rattle.facts.specs.Answer.{onBook, afterBook}
@@ -60,6 +62,28 @@ front-written y t d n e q p k =
     let m : t ++ drop (length t) d ≡ e = sym (ap (λ (x : Reply). x .room) q) ∙ k in
     rw (← m, ← z) (take-append-seam t (drop (length t) d))
 
+-- and the rest of the room keeps its numbers
+front-kept : (y : Reply) (t d : List ℤ) (n : ℕ) (e : List ℤ) → y ≡ wrote t d → length t ≤ length d → y .place ≡ n → y .room ≡ e
+    → (n ≤ length d) × (e ≡ take n e ++ drop n d)
+front-kept y t d n e q h p k =
+    let z : length t ≡ n = sym (ap (λ (x : Reply). x .place) q) ∙ p in
+    let m : t ++ drop (length t) d ≡ e = sym (ap (λ (x : Reply). x .room) q) ∙ k in
+    (omega arith, sym m ∙ rw (front-written y t d n e q p k, ← z))
+
+pub to-trace-front : (s : List ℕ) (r : ℕ) (vals l d : List ℤ) (n : ℕ) (e : List ℤ) → Converts s (toTraceIn r vals l d) d (Wrote n) e
+    → (n ≤ length d) × (e ≡ take n e ++ drop n d)
+to-trace-front s r vals l d n e c =
+    let w = written-by c in
+    let b = w .book in
+    front-kept _ (asTrace b flags l) d n e (toTrace-wrote b flags r vals l d (w .number)) (toTrace-exact b flags r vals l d .0 (w .number) .2) (w .place) (w .room)
+
+pub to-derivation-front : (s : List ℕ) (r : ℕ) (vals l d : List ℤ) (n : ℕ) (e : List ℤ) → Converts s (toDerivationIn r vals l d) d (Wrote n) e
+    → (n ≤ length d) × (e ≡ take n e ++ drop n d)
+to-derivation-front s r vals l d n e c =
+    let w = written-by c in
+    let b = w .book in
+    front-kept _ (asDerivation b flags r l) d n e (toDerivation-wrote b flags r vals l d (w .number)) (toDerivation-exact b flags r vals l d .0 (w .number) .1) (w .place) (w .room)
+
 -- a refusal leaves the room as it was
 told-zero : (y : Reply) → y .number ≡ 0 → told y ≡ Wrote (y .place)
 unfolding told pick
@@ -78,6 +102,20 @@ to-trace-kept s r vals l d g e w = refused-kept s _ d (λ b. toTrace-kept b flag
 
 pub to-derivation-kept : (s : List ℕ) (r : ℕ) (vals l d : List ℤ) (g : Refusal) (e : List ℤ) → Converts s (toDerivationIn r vals l d) d (Refused g) e → e ≡ d
 to-derivation-kept s r vals l d g e w = refused-kept s _ d (λ b. toDerivation-kept b flags r vals l d) g e w
+
+-- the number 0 is a list written
+pub zero-wrote : (s : List ℕ) (f : Book → Reply) (d : List ℤ) (x : Converted) (e : List ℤ) → Converts s f d x e → says x e .number ≡ 0 → (n : ℕ) × (x ≡ Wrote n)
+unfolding says caseOf told
+zero-wrote s f d (Wrote n) e w z = (n, refl)
+zero-wrote s f d (Refused g) e w z = absurd (go (books.answer s) refl (w .is))
+  where
+    go : (a : books.Answer) → books.answer s ≡ a → Refused g ≡ caseOf a f → ⊥
+    go (books.accepted b) q i =
+        pick-by (λ (y : Converted). Refused g ≡ y → ⊥) _ _ _
+        (λ t h. let x : _≡_ {A = ℕ} 0 1 = cc in omega arith)
+        (λ t h. let m : g .number ≡ f b .number = cc in eqb-false _ _ t (sym m ∙ z))
+        i
+    go (books.refused m p) q i = let k : g .number ≡ m = cc in omega (arith, refused-number s m p q .0)
 
 -- where the reply has the number 0, a list was written
 wrote-by : {s : List ℕ} {f : Book → Reply} {d : List ℤ} {x : Converted} {e : List ℤ} (b : Book) → books.answer s ≡ books.accepted b → f b .number ≡ 0 → Converts s f d x e → x ≡ Wrote (f b .place)
@@ -181,6 +219,21 @@ module _ (s : List ℕ) (bytes : Bytes s) (r : ℕ) (vals : List ℤ) where
       let k = u .held in
       let same : u .book ≡ b = cc in
       u .list ∙ rw (same, t .list) (over-and-back b flags flags-laws (limits b (t .held)) r vals l (t .from))
+
+  -- and a room that holds the derivation gets it back
+  pub back-again : (l d : List ℤ) (n : ℕ) (e : List ℤ) → Converts s (toTraceIn r vals l d) d (Wrote n) e
+      → (d′ : List ℤ) → length l ≤ length d′ → (x : Converted) (e′ : List ℤ) → Converts s (toDerivationIn r vals (take n e) d′) d′ x e′
+      → (x ≡ Wrote (length l)) × (take (length l) e′ ≡ l)
+  back-again l d n e c d′ room x e′ c′ =
+      let t = to-trace-accepted l d n e c in
+      let b = t .book in
+      let same : asDerivation b flags r (take n e) ≡ l = rw (t .list) (over-and-back b flags flags-laws (limits b (t .held)) r vals l (t .from)) in
+      let good : checkTrace b flags r vals (take n e) ≡ lists.ok = sym (trace-answer b (take n e) (t .held)) ∙ t .accepted in
+      let fits : length (asDerivation b flags r (take n e)) ≤ length d′ = rw same room in
+      let z = toDerivation-exact b flags r vals (take n e) d′ .1 (good, fits) in
+      let place : toDerivation b flags r vals (take n e) d′ .place ≡ length l = ap (λ (y : Reply). y .place) (toDerivation-wrote b flags r vals (take n e) d′ z) ∙ ap length same in
+      let is : x ≡ Wrote (length l) = wrote-by b (t .held) z c′ ∙ ap Wrote place in
+      (is, there-and-back l d n e c d′ (length l) e′ (rw is at c′))
 
   -- some list is accepted as a trace just where some list is accepted as a derivation whose trace is within the limit
   pub either-way : (b : Book) → books.answer s ≡ books.accepted b

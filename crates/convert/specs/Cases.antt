@@ -1,4 +1,4 @@
--- Document 01's cases of the conversions, by computation.
+-- Cases of the conversions beside document 01's, by computation: the rest of a room, a derivation that is refused, and the way back.
 use Prim.Native.Nat.{ℕ}
 use mathlib.Core.Path.{_≡_, refl}
 use mathlib.Core.List.{List, [], _++_}
@@ -24,8 +24,7 @@ use Rattle.lists.specs.Derivation.{numbers, judgeStep, checkFrom, check, judgeG
 use Rattle.lists.specs.Trace.{flat, sum, cut, allRows, firstOutRows, stateNumbers, size, moveNumbers, traceNumbers, has, meets, judgeMove, walkFrom, firstOf, judgeFirst, checkWalk, checkTrace}
 use Rattle.lists.specs.Convert.{Reply, stepsFrom, derivationSteps, traceSteps, asTrace, asDerivation, written, toTrace, toDerivation}
 use Rattle.book.specs.Example.{bookB}
-use Rattle.facts.specs.Example.{listD}
-use Rattle.trace.specs.Cases.{listT}
+use Rattle.facts.specs.Example.{listD, listT}
 use Rattle.convert.specs.Reply.{replyOf}
 use Rattle.convert.specs.Calls.{toTraceIn, toDerivationIn}
 
@@ -43,13 +42,10 @@ room n = replicate n (pos 7)
 abbrev reply : ℕ → ℕ → List ℤ → Reply
 reply n p r = record { number = n; place = p; room = r }
 
--- D becomes its trace of 31 numbers, and what lies behind keeps its numbers; room 30 is 9 at 31; and the way back
 pub cases : (over listD (room 33) ≡ reply 0 31 (listT ++ room 2))
-    × (over listD (room 31) ≡ reply 0 31 listT)
-    × (over listD (room 30) ≡ reply 9 31 (room 30))
     × (over (take 11 listD) (room 31) ≡ reply 17 11 (room 31))
     × (return listT (room 14) ≡ reply 0 13 (listD ++ room 1))
     × (return listT (room 12) ≡ reply 9 13 (room 12))
     × (return (take 30 listT) (room 13) ≡ reply 13 26 (room 13))
 unfolding plus is0 leaves holds placeWindow variableWindow head body u16At u32At i16At i32At pick kinds valueThen byteThen numberThen stepThen nodeThen byteAt belowAt relationAt variableAt skipAt numberAt kindAt sumAt remainsAt nodeAt follow constraintAt argumentsAt factAt bodyAt clauseThen partsAt clauseAt coefficientsAt sumOf then grow treeAt atomIn bodyIn treeOf treeIn clauseIn clauseOr sized headed trailer readingThen topArity arityAt aritiesAt recordAt clausesAt read entryAt upTo bookIn books.clauseNumber answers.answer answers.told need andThen eqZ eqVals inside allIn firstOut firstDiff clauseNumber judgeClause judge judgeGoal judgeLength flat sum cut allRows firstOutRows stateNumbers size has meets judgeMove walkFrom firstOf judgeFirst checkWalk checkTrace numbers judgeStep checkFrom check checkDerivation same moveNumbers traceNumbers back lastWriters stepsFrom derivationSteps traceSteps asTrace asDerivation written toTrace toDerivation replyOf
-cases = (refl, refl, refl, refl, refl, refl, refl)
+cases = (refl, refl, refl, refl, refl)

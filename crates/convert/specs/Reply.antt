@@ -69,6 +69,15 @@ pub unique : (s : List ℕ) (f : Book → Reply) (d : List ℤ) (r t : Converted
 unique s f d r t e g p q =
     (p .is ∙ sym (q .is), sym (room-said r e) ∙ ap (λ (y : Reply). y .room) (p .tells ∙ sym (q .tells)) ∙ room-said t g)
 
+-- a refused book ends the call with its own refusal, and the room is left
+pub book-refused : (s : List ℕ) (f : Book → Reply) (d : List ℤ) (n p : ℕ) → books.answer s ≡ books.refused n p
+    → (r : Converted) (e : List ℤ) → Converts s f d r e → (r ≡ refused n p) × (e ≡ d)
+unfolding caseOf replyOf
+book-refused s f d n p q r e w = (
+  w .is ∙ ap (λ (a : books.Answer). caseOf a f) q,
+  sym (room-said r e) ∙ ap (λ (y : Reply). y .room) (w .tells ∙ ap (λ (a : books.Answer). replyOf a f d) q),
+)
+
 -- ---- inside a call, on an accepted book
 
 -- the answer and the room of a reply

@@ -1,2 +1,3 @@
 pub mod Demands
+pub mod Theorems
 pub mod Table

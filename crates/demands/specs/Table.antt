@@ -1,24 +1,115 @@
--- Document 01's cases marked P, by computation.
-use Prim.Native.Nat.{ℕ, _+_, _-_}
+-- Document 01's cases marked P, under "A small book and what happens to it": one table, by computation. Book B stands in `book`'s Example, the lists D and
+-- T (its trace) in `facts`' Example. The goal is relation 1, which has no places.
+use Prim.Native.Nat.{ℕ}
 use mathlib.Core.Path.{_≡_, refl}
-use mathlib.Core.List.{List, [], _∷_}
-use lib.ListN.{set}
-use Rattle.whole.specs.Bytes.{u16At, u32At, i32At}
+use mathlib.Core.Bool.{Bool, true, false}
+use mathlib.Core.List.{List, [], _∷_, flatMap}
+use lib.ListN.{take, set, replicate}
+use lib.IntN.{ℤ, pos, negsuc}
+use Rattle.whole.specs.Bytes.{u16At, u32At, i16At, i32At}
+use Rattle.meaning.specs.Constraint.{plus, is0, leaves, holds}
+use Rattle.meaning.specs.Book.{placeWindow, variableWindow, head, body}
 use Rattle.cursor.specs.Steps.{pick, kinds, valueThen, byteThen, numberThen, stepThen, nodeThen, byteAt, belowAt, relationAt, variableAt, skipAt, numberAt, kindAt, sumAt, remainsAt, nodeAt}
 use Rattle.cursor.specs.Walk.{follow, constraintAt}
 use Rattle.cursor.specs.Clause.{argumentsAt, factAt, bodyAt, clauseThen, partsAt, clauseAt}
-use Rattle.book.specs.Read.{sized, headed, trailer, readingThen, topArity, arityAt, aritiesAt, recordAt, clausesAt, read, entryAt, partAt, constraintOf}
-use Rattle.book.specs.Answer.{told, answer, number, place}
+use Rattle.cursor.specs.Tree.{coefficientsAt, sumOf, then, grow, treeAt}
+use Rattle.cursor.specs.Meaning.{atomIn, bodyIn, treeOf, treeIn, clauseIn, clauseOr}
 use Rattle.book.specs.Example.{bookB}
+use Rattle.book.specs.Read.{sized, headed, trailer, readingThen, topArity, arityAt, aritiesAt, recordAt, clausesAt, read, entryAt}
+use Rattle.book.specs.Meaning.{upTo, bookIn}
+use Rattle.book.specs.Meaning as held
+use Rattle.book.specs.Answer as books
+use Rattle.lists.specs.Answer as lists
+use Rattle.lists.specs.Answer.{need, andThen}
+use Rattle.lists.specs.Compare.{eqZ, eqVals, same, inside, allIn, firstOut, firstDiff}
+use Rattle.lists.specs.Instance.{clauseNumber, judgeClause, judge}
+use Rattle.lists.specs.Derivation.{judgeStep, checkFrom, check, judgeGoal, judgeLength, checkDerivation}
+use Rattle.lists.specs.Trace.{flat, sum, cut, allRows, firstOutRows, stateNumbers, size, moveNumbers, traceNumbers, has, meets, judgeMove, walkFrom, firstOf, judgeFirst, checkWalk, checkTrace}
+use Rattle.lists.specs.Convert.{Reply, stepsFrom, derivationSteps, asTrace, written, toTrace}
+use Rattle.facts.specs.Example.{listD, listT}
+use Rattle.facts.specs.Answer.{afterBook, onBook}
+use Rattle.derivation.specs.Answer as derivations
+use Rattle.trace.specs.Answer as traces
+use Rattle.convert.specs.Reply.{replyOf}
+use Rattle.convert.specs.Calls.{toTraceIn}
+use Rattle.models.specs.Read as models
+use Rattle.models.specs.Read.{numberIn, inModel, ruleThen, modelIn}
+use Rattle.models.specs.Assignments.{natural, width, upFrom, assignments, count, rank}
+use Rattle.models.specs.Walk as walks
+use Rattle.models.specs.Walk.{triesFrom, walk, total, position, satisfies, met, breaks, find}
+use Rattle.models.specs.Answer.{Answer, outcome, weighed, judged, examine, inBook, modelAnswer}
 
--- a book's number and place
-abbrev reply : List ℕ → ℕ × ℕ
-reply s = (number (answer s), place (answer s))
+-- ---- the words of the table
 
-pub table : (reply bookB ≡ (0, 0))
-    × (reply (set bookB 58 2) ≡ (2, 44))
-    × (reply (set bookB 0 9) ≡ (3, 0))
-    × (reply (set bookB 40 14) ≡ (4, 40))
-    × (reply (set bookB 5 1) ≡ (6, 5))
-unfolding u16At u32At i32At pick kinds valueThen byteThen numberThen stepThen nodeThen byteAt belowAt relationAt variableAt skipAt numberAt kindAt sumAt remainsAt nodeAt follow constraintAt argumentsAt factAt bodyAt clauseThen partsAt clauseAt sized headed trailer readingThen topArity arityAt aritiesAt recordAt clausesAt read entryAt partAt constraintOf told answer
-table = (refl, refl, refl, refl, refl)
+-- number n at place p
+infix 20 _says_at_
+abbrev _says_at_ : ℕ × ℕ → ℕ → ℕ → Type 0
+_says_at_ x n p = x ≡ (n, p)
+
+-- B with one byte set; hi is byte 48
+abbrev byte : ℕ → ℕ → List ℕ
+byte i v = set bookB i v
+
+abbrev reading : List ℕ → ℕ × ℕ
+reading s = (books.number (books.answer s), books.place (books.answer s))
+
+abbrev listed : lists.Answer → ℕ × ℕ
+listed a = (lists.number a, lists.place a)
+
+abbrev derivation : List ℕ → List ℤ → ℕ × ℕ
+derivation s l = listed (derivations.answer s l 1 [])
+
+abbrev trace : List ℕ → List ℤ → ℕ × ℕ
+trace s l = listed (traces.answer s l 1 [])
+
+-- the conversion of a list into a room of n numbers, each 7
+abbrev converted : List ℤ → ℕ → Reply
+converted l n = let room = replicate n (pos 7) in replyOf (books.answer bookB) (toTraceIn 1 [] l room) room
+
+abbrev conversion : List ℤ → ℕ → ℕ × ℕ
+conversion l n = (converted l n .number, converted l n .place)
+
+abbrev model : List ℕ → List ℕ → ℕ × ℕ
+model s m = (modelAnswer s m .number, modelAnswer s m .place)
+
+abbrev examined : List ℕ → List ℕ → ℕ
+examined s m = modelAnswer s m .count
+
+-- true for the relation with a place, not true for the query
+abbrev modelB : List ℕ
+modelB = 0 ∷ 3 ∷ 0 ∷ []
+
+-- over one variable: remainder with d = 3 and r = 2
+abbrev remainder : ℤ → Bool
+remainder v = holds (v ∷ []) (treeIn (6 ∷ 1 ∷ 0 ∷ 0 ∷ 0 ∷ 0 ∷ 0 ∷ 3 ∷ 0 ∷ 2 ∷ 0 ∷ []) 1 0)
+
+-- ---- the table
+
+pub table :
+    -- B accepted. Byte 58 = 2: 2 at 44. Byte 0 = 9: 3 at 0. Byte 40 = 14: 4 at 40. Byte 5 = 1: 6 at 5.
+    (reading bookB says 0 at 0)
+    × (reading (byte 58 2) says 2 at 44)
+    × (reading (byte 0 9) says 3 at 0)
+    × (reading (byte 40 14) says 4 at 40)
+    × (reading (byte 5 1) says 6 at 5)
+    -- Derivation D accepted; its trace is T (31 numbers). Room 30: 9 at 31.
+    × (derivation bookB listD says 0 at 0)
+    × (conversion listD 31 says 0 at 31)
+    × (converted listD 31 .room ≡ listT)
+    × (conversion listD 30 says 9 at 31)
+    -- First 11 numbers of D: 17 at 11. 0 0, 1 1 2: 16 at 2. With hi = 2, D: 14 at 10.
+    × (derivation bookB (take 11 listD) says 17 at 11)
+    × (derivation bookB (pos 0 ∷ pos 0 ∷ pos 1 ∷ pos 1 ∷ pos 2 ∷ []) says 16 at 2)
+    × (derivation (byte 48 2) listD says 14 at 10)
+    -- The trace with number 6 set to 1: 19 at 6. Trace 0 0 0: 17 at 3.
+    × (trace bookB (set listT 6 (pos 1)) says 19 at 6)
+    × (trace bookB (pos 0 ∷ pos 0 ∷ pos 0 ∷ []) says 17 at 3)
+    -- Model 00 03 00: 25 at 24. With hi = 2: accepted, 15 examined.
+    × (model bookB modelB says 25 at 24)
+    × (model (byte 48 2) modelB says 0 at 0)
+    × (examined (byte 48 2) modelB ≡ 15)
+    -- Remainder with d = 3, r = 2: true of 5, false of −1.
+    × (remainder (pos 5) ≡ true)
+    × (remainder (negsuc 0) ≡ false)
+unfolding flatMap u16At u32At i16At i32At plus is0 leaves holds placeWindow variableWindow head body pick kinds valueThen byteThen numberThen stepThen nodeThen byteAt belowAt relationAt variableAt skipAt numberAt kindAt sumAt remainsAt nodeAt follow constraintAt argumentsAt factAt bodyAt clauseThen partsAt clauseAt coefficientsAt sumOf then grow treeAt atomIn bodyIn treeOf treeIn clauseIn clauseOr sized headed trailer readingThen topArity arityAt aritiesAt recordAt clausesAt read entryAt upTo bookIn held.clauseNumber books.answer books.told need andThen eqZ eqVals same inside allIn firstOut firstDiff clauseNumber judgeClause judge judgeStep checkFrom check judgeGoal judgeLength checkDerivation flat sum cut allRows firstOutRows stateNumbers size moveNumbers traceNumbers has meets judgeMove walkFrom firstOf judgeFirst checkWalk checkTrace stepsFrom derivationSteps asTrace written toTrace afterBook onBook derivations.answer traces.answer replyOf models.partsAt numberIn inModel ruleThen modelIn natural width upFrom assignments count rank triesFrom walk walks.sum total position satisfies met breaks find outcome weighed judged examine inBook modelAnswer
+table = (refl, refl, refl, refl, refl, refl, refl, refl, refl, refl, refl, refl, refl, refl, refl, refl, refl, refl, refl)

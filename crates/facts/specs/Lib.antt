@@ -2,3 +2,4 @@ pub mod Answer
 pub mod Place
 pub mod Instance
 pub mod Example
+pub mod OnBook

@@ -1,31 +1,18 @@
 -- What a caller of ruahmitz_constraint has in hand: the part of r bytes from byte q on.
 use Prim.Native.Nat.{ℕ, _≤_, _<_}
-use native.Mathlib.Omega.{arith}
 use mathlib.Core.Path.{_≡_, sym, ap, _∙_}
 use mathlib.Core.List.{List}
-use lib.ListN.{length, take, drop}
-use Rattle.meaning.specs.Constraint.{Constraint, truth, at-most, equal, not, and, or, remainder}
+use lib.ListN.{take, drop}
 use Rattle.cursor.specs.declared.Refusal.{Refusal}
 use Rattle.book.specs.declared.Header.{Header}
 use Rattle.book.specs.declared.Reading.the-variants.{Good, Refused}
 use Rattle.book.specs.declared.Span.{Span}
 use Rattle.book.specs.Read.{read, constraintOf}
 use Rattle.book.specs.Span.{absent, spanOf, span-of, spans-length, span-refused, span-absent}
-use Rattle.encode.specs.Encode.{constraintBytes}
 use Rattle.encode.specs.Stands.{Bytes}
 use Rattle.encode.specs.Written.{constraint-written}
+use Rattle.encode.specs.Part.{constraint-some}
 use Rattle.kit.specs.Promises.{Hands}
-
--- every constraint is written in at least one byte
-written-some : (c : Constraint) → 0 < length (constraintBytes c)
-unfolding constraintBytes
-written-some truth = omega arith
-written-some (at-most s) = omega arith
-written-some (equal s) = omega arith
-written-some (not t) = omega arith
-written-some (and t u) = omega arith
-written-some (or t u) = omega arith
-written-some (remainder s d r) = omega arith
 
 module _ {s : List ℕ} {k r q : ℕ} (u : Hands s k r q) where
   -- it is the constraint of clause k
@@ -48,4 +35,4 @@ module _ {s : List ℕ} {k r q : ℕ} (u : Hands s k r q) where
 
   -- a constraint that is there has at least one byte
   pub some-handed : {h : Header} → Bytes s → read s ≡ Good h → k < h .count → 0 < r
-  some-handed {h} bytes e a = rw (u .long, constraint-written s h bytes e k a) (written-some _)
+  some-handed {h} bytes e a = rw (u .long, constraint-written s h bytes e k a) (constraint-some _)

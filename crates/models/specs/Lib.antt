@@ -11,4 +11,3 @@ pub mod Odometer
 pub mod Cap
 pub mod Passed
 pub mod Main
-pub mod Table

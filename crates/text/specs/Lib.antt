@@ -1,3 +1,4 @@
 pub mod Sort
 pub mod Reply
 pub mod Text
+pub mod Calls

@@ -1,4 +1,3 @@
 pub mod Step
 pub mod Answer
 pub mod Exact
-pub mod Cases
