@@ -10,6 +10,7 @@ use lib.Seq.{length-take-le, getD-take}
 use lib.Dec.{ltb, leb, eqb}
 use lib.IntN.{ℤ, pos, negsuc}
 use borrow.Author.Tests.{lt-ltb, le-ltb, le-leb, lt-leb, eq-eqb, ne-eqb}
+use Rattle.meaning.specs.Constraint.{holds}
 use Rattle.meaning.specs.Book as meant
 use Rattle.meaning.specs.Book.{Window, variableWindow}
 use Rattle.lists.specs.Answer as lists
@@ -21,7 +22,9 @@ use Rattle.lists.specs.Laws.{judge-exact}
 use Rattle.cursor.specs.declared.Refusal.{Refusal}
 use Rattle.cursor.specs.declared.Clause.{Clause}
 use Rattle.cursor.specs.Steps.{refuse}
-use Rattle.cursor.specs.Meaning.{clauseIn}
+use Rattle.cursor.specs.Meaning.{treeIn, clauseIn}
+use Rattle.cursor.specs.Sound.{IsTree, Sound}
+use Rattle.truth.specs.Front.{front-is-tree, front-tree}
 use Rattle.book.specs.declared.Header.{Header}
 use Rattle.book.specs.declared.Reading.{Reading}
 use Rattle.book.specs.declared.Reading.the-variants as readings
@@ -181,7 +184,15 @@ module _ (s : List ℕ) (h : Header) (c : meant.Clause) (n : ℕ) (a : lists.Ans
       let y : out ≡ firstOut (windows h) (i + 1) (take v (drop (i + 1) l)) = o ∙ ap (λ (m : ℕ). firstOut (windows h) (i + 1) (take m (drop (i + 1) l))) q in
       rw (variable-window s h c) (need-no n _ a _ (sym (some-by (windows h) (take v (drop (i + 1) l)) (i + 1) (omega arith))) refl (e ∙ ap (λ (m : ℕ). Refused (refuse n m)) y))
 
-pub ruleset judging = (need-room, need-short, need-more, need-in, need-out, need-yes, need-no, ends-well)
+-- a clause's constraint in the front of the book, worked out on the whole
+module _ (s : List ℕ) (j n : ℕ) (c : Clause) where
+  pub rule-there : Sound (take j s) n c → IsTree s (c .variables) (c .rule)
+  rule-there w = front-is-tree s j (c .variables) (c .rule) (w .tree)
+
+  pub rule-truth : (vs : List ℤ) {r : Bool} → r ≡ holds vs (treeIn s (c .variables) (c .rule)) → Sound (take j s) n c → r ≡ holds vs (treeIn (take j s) (c .variables) (c .rule))
+  rule-truth vs e w = e ∙ ap (holds vs) (sym (front-tree s j (c .variables) (c .rule) (w .tree)))
+
+pub ruleset judging = (rule-truth, need-room, need-short, need-more, need-in, need-out, need-yes, need-no, ends-well)
 
 -- the clause number, as the code has it
 number-is : (s : List ℕ) (h : Header) (z : ℤ) → read s ≡ readings.Good h → clauseNumber (bookIn s h) z ≡ numberOr (h .count) z

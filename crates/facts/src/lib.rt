@@ -269,7 +269,6 @@ fn judged(
     requires { ⌜ Sound (take (h .start) (now book)) (h .relations) l ⌝ }
     ensures { λ r. ⌜ r ≡ told (judgeClause (bookIn (now (book .entry)) h) (clauseIn (take (h .start) (now (book .entry))) l) more (drop (i + 1) (now (list .entry))) i) ⌝ }
 {
-    let start = h.start;
     let from = i + 1;
     let v = wide(l.variables);
     if list.len() - from < v {
@@ -282,7 +281,7 @@ fn judged(
     if out < from + v {
         return refuse(14, out);
     }
-    if truth::truth(&book[..start], l.rule, l.variables, list, from) {
+    if truth::truth(book, l.rule, l.variables, list, from) {
         Answer::Accepted
     } else {
         refuse(15, i)

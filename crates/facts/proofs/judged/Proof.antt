@@ -1,7 +1,6 @@
-use Rattle.book.proofs.Laws.{fronts}
 use Rattle.lists.specs.Instance.{judgeClause}
 use Rattle.cursor.specs.Meaning.{clauseIn}
-use Rattle.facts.proofs.Judge.{judging}
+use Rattle.facts.proofs.Judge.{rule-there, judging}
 use borrow.Author.Needs.{needs}
 use Rattle.facts.proofs.judged.Statement.{statement}
 use Rattle.facts.proofs.judged.Tie as tie
@@ -18,8 +17,8 @@ returns-3 : tie.Need-returns-3
 unfolding judgeClause clauseIn
 returns-3 c = search judging
 
-slice-aggregate-truth : tie.Need-slice-aggregate-truth
-slice-aggregate-truth c = search fronts
+truth-requires : tie.Need-truth-requires
+truth-requires c κs = (search needs, search rule-there)
 
 returns-4 : tie.Need-returns-4
 unfolding judgeClause clauseIn
@@ -46,8 +45,7 @@ judged-spec =
     (λ c. search needs)
     (λ c κs. search needs)
     returns-3
-    slice-aggregate-truth
-    (λ c κs. search needs)
+    truth-requires
     (λ c κs. search needs)
     returns-4
     returns-5)
