@@ -1,2 +1,3 @@
 pub mod Stood
+pub mod Sides
 pub mod Front

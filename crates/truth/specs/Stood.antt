@@ -1,13 +1,11 @@
--- A constraint that stands in the bytes: its place, its tree and where it ends; and what passing it answers.
-use Prim.Native.Nat.{ℕ, zero, suc, _+_, _*_, _<_, _≤_}
+-- A constraint that stands in the bytes: its place, its tree and where it ends.
+use Prim.Native.Nat.{ℕ, suc, _+_, _*_, _<_, _≤_}
 use mathlib.Core.Path.{_≡_}
 use mathlib.Core.List.{List}
 use mathlib.Core.Bool.{Bool, true, false, _||_}
-use mathlib.Core.Bool as Bool
 use lib.ListN.{length, getD}
-use lib.IntN.{ℤ}
 use lib.Dec.{eqb, ltb}
-use Rattle.meaning.specs.Constraint.{Constraint, truth, at-most, equal, not, and, or, remainder, holds}
+use Rattle.meaning.specs.Constraint.{Constraint, truth, at-most, equal, not, and, or, remainder}
 use Rattle.whole.specs.Bytes.{u16At}
 use Rattle.cursor.specs.Steps.{pick}
 use Rattle.cursor.specs.Tree.{sumOf}
@@ -58,26 +56,17 @@ pub data Stood (s : List ℕ) (v : ℕ) : ℕ → Constraint → ℕ → Type 0 
   turned : {p q : ℕ} {t : Constraint} → getD s p 0 ≡ 3 → Stood s v (p + 1) t q → Stood s v p (not t) q
   joined : {p m q : ℕ} {t u : Constraint} (op : Bool) → getD s p 0 ≡ joint op → Stood s v (p + 1) t m → Stood s v m u q → Stood s v p (join op t u) q
 
--- over v variables a constraint stands at p
-pub record Standing (s : List ℕ) (v p : ℕ) : Type 0 where
-  pub tree : Constraint
+-- n constraints stand one after another from p to q
+pub data Row (s : List ℕ) (v : ℕ) : ℕ → ℕ → ℕ → Type 0 where
+  none : {q : ℕ} → Row s v 0 q q
+  more : {n p m q : ℕ} {t : Constraint} → Stood s v p t m → Row s v n m q → Row s v (suc n) p q
+
+-- such a row is there
+pub record Rowed (s : List ℕ) (v n p : ℕ) : Type 0 where
   pub past : ℕ
-  pub stood : Stood s v p tree past
+  pub row : Row s v n p past
+  pub within : past ≤ length s
 
--- ---- what is answered of a constraint that stands at p
-
--- where it ends
-pub record Ended (s : List ℕ) (v p r : ℕ) : Type 0 where
-  pub is : {t : Constraint} {q : ℕ} → Stood s v p t q → r ≡ q
-
-unfoldable pub sameOf : Bool → Bool → Bool
-sameOf true b = b
-sameOf false b = Bool.not b
-
--- the place q where a truth is the wanted one, else 0
-unfoldable pub pastIf : Bool → Bool → ℕ → ℕ
-pastIf want b q = pick (sameOf want b) q 0
-
--- where it ends, if its truth at the values xs is the wanted one
-pub record Passed (s : List ℕ) (v : ℕ) (xs : List ℤ) (p : ℕ) (want : Bool) (r : ℕ) : Type 0 where
-  pub is : {t : Constraint} {q : ℕ} → Stood s v p t q → r ≡ pastIf want (holds xs t) q
+-- r is where it ends
+pub record Ended (s : List ℕ) (v n p r : ℕ) : Type 0 where
+  pub is : {q : ℕ} → Row s v n p q → r ≡ q

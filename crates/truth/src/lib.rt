@@ -1,6 +1,5 @@
 // The truth of a constraint, worked out on the bytes that hold it.
 ghost use mathlib.Core.Path.{_≡_};
-ghost use mathlib.Core.Bool.{not};
 ghost use Prim.Native.Nat.{_+_, _*_, _<_, _≤_};
 ghost use lib.ListN.{length, getD, take, drop};
 ghost use lib.IntN.{pos};
@@ -10,7 +9,8 @@ ghost use Rattle.meaning.specs.Constraint.{atMost0, is0, leaves, valueOf, holds
 ghost use Rattle.cursor.specs.Tree.{sumOf};
 ghost use Rattle.cursor.specs.Sound.{IsTree};
 ghost use Rattle.cursor.specs.Meaning.{treeIn};
-ghost use Rattle.truth.specs.Stood.{joinsOf, sizeOf, partsOf, leafOf, sameOf, pastIf, Alone, Standing, Ended, Passed};
+ghost use Rattle.truth.specs.Stood.{joinsOf, sizeOf, partsOf, leafOf, Alone, Rowed, Ended};
+ghost use Rattle.truth.specs.Sides.{sameOf, bitsOf, Opened};
 
 // the i-th value
 fn value_at(values: &[i32], i: usize) -> i64
@@ -118,50 +118,61 @@ fn same(a: bool, b: bool) -> bool
     if a { b } else { !b }
 }
 
-// the place past the constraint at p, no sum worked out
-fn end(s: &[u8], p: usize, v: usize) -> usize
-    requires { ⌜ (v ≤ 16) × Standing (now s) v p ⌝ }
-    ensures { λ r. ⌜ Ended (now (s .entry)) v p r ⌝ }
+// the place past `left` constraints that stand from p on, no sum worked out
+fn end(s: &[u8], p: usize, v: usize, left: usize) -> usize
+    requires { ⌜ (v ≤ 16) × Rowed (now s) v left p ⌝ }
+    ensures { λ r. ⌜ Ended (now (s .entry)) v left p r ⌝ }
 {
     let mut at = p;
-    let mut left: usize = 1;
-    while 0 < left {
+    let mut n = left;
+    while 0 < n {
         let k = s[at];
-        left = left - 1 + parts(k);
+        n = n - 1 + parts(k);
         at += size(k, v);
     }
     at
 }
 
-// the place q where the truth is the wanted one, else 0
-fn kept(truth: bool, want: bool, q: usize) -> usize
-    ensures { λ r. ⌜ r ≡ pastIf want truth q ⌝ }
+// A second side that waits, in two bits: what the first must be for it to count, and what is wanted of it.
+fn bits(first: bool, want: bool) -> u64
+    ensures { λ r. ⌜ r ≡ bitsOf first want ⌝ }
 {
-    if same(want, truth) { q } else { 0 }
+    if first {
+        return if want { 3 } else { 2 };
+    }
+    if want { 1 } else { 0 }
 }
 
-// The place past the constraint at p where its truth is the wanted one, else 0; no constraint ends at 0.
-fn past(s: &[u8], p: usize, v: usize, values: &[i32], from: usize, want: bool) -> usize
-    requires { ⌜ (v ≤ 16) × ((from + v ≤ length (now values)) × Standing (now s) v p) ⌝ }
-    ensures { λ r. ⌜ Passed (now (s .entry)) v (take v (drop from (now (values .entry)))) p want r ⌝ }
+// Sides that wait, 1 and then two bits each with the nearest lowest, and how many were passed by.
+struct Waiting {
+    sides: u64,
+    passed: usize,
+}
+
+// the sides from the nearest on that counts where what stands before it is t; 1 where none does
+fn opened(sides: u64, t: bool) -> Waiting
+    ensures { λ r. ⌜ Opened sides t r ⌝ }
 {
-    let k = s[p];
-    if k == 3 {
-        return past(s, p + 1, v, values, from, !want);
-    }
-    if joins(k) {
-        // a first side that is not op decides
-        let op = k == 4;
-        let m = past(s, p + 1, v, values, from, op);
-        if m == 0 {
-            return if same(want, op) { 0 } else { end(s, p, v) };
+    let mut rest = sides;
+    let mut passed = 0;
+    while 3 < rest {
+        if same(t, 1 < rest % 4) {
+            return Waiting {
+                sides: rest,
+                passed: passed,
+            };
         }
-        return past(s, m, v, values, from, want);
+        rest = rest / 4;
+        passed += 1;
     }
-    kept(judged(k, s, p, v, values, from), want, p + size(k, v))
+    Waiting {
+        sides: rest,
+        passed: passed,
+    }
 }
 
 // The truth of the constraint at p, over v variables whose values stand in the list from `from` on.
+// A constraint below an odd number of nots is wanted false; what is true of the whole is what is wanted of its parts.
 pub fn truth(s: &[u8], p: usize, v: u8, values: &[i32], from: usize) -> bool
     requires { ⌜ (v ≤ 16) × (from + v ≤ length (now values)) ⌝ }
     requires { ⌜ IsTree (now s) v p ⌝ }
@@ -170,20 +181,25 @@ pub fn truth(s: &[u8], p: usize, v: u8, values: &[i32], from: usize) -> bool
     let n = v as usize;
     let mut at = p;
     let mut want = true;
+    let mut sides: u64 = 1;
     loop {
         let k = s[at];
         if k == 3 {
             want = !want;
             at += 1;
         } else if joins(k) {
-            let op = k == 4;
-            let m = past(s, at + 1, n, values, from, op);
-            if m == 0 {
-                return !same(want, op);
-            }
-            at = m;
+            sides = sides * 4 + bits(same(want, k == 4), want);
+            at += 1;
         } else {
-            return same(want, judged(k, s, at, n, values, from));
+            let t = same(want, judged(k, s, at, n, values, from));
+            let w = opened(sides, t);
+            let rest = w.sides;
+            if rest < 4 {
+                return t;
+            }
+            at = end(s, at + size(k, n), n, w.passed);
+            want = rest % 2 == 1;
+            sides = rest / 4;
         }
     }
 }

@@ -1,4 +1,4 @@
-use Rattle.truth.specs.Stood.{sameOf}
+use Rattle.truth.specs.Sides.{sameOf}
 use Rattle.truth.proofs.same.Statement.{statement}
 use Rattle.truth.proofs.same.Tie as tie
 
