@@ -9,13 +9,11 @@ worked out by tests/reference.py alone: 'N at P' for the reader's number and pla
 ' length:checksum' for each constraint part asked for. These are the clauses 0 to count for an
 accepted book (count itself is absent), clause 0 for a refused one, and for both clause 2^63.
 """
-import pathlib
 import sys
 
 sys.dont_write_bytecode = True
 import reference
-
-FOLDER = pathlib.Path(__file__).resolve().parent.parent / 'crates' / 'book_cases'
+import stored
 
 # Document 01's book B, and the 23 bytes of "Printed text".
 B = bytes.fromhex(
@@ -662,25 +660,12 @@ def main(words):
             print(f'{i + 1}: {name} ({len(data)} bytes): {line}')
         return 0
     results = list(self_test(made, lines))
-    for name, wanted in [('stdin', stdin), ('stdout', stdout)]:
-        path = FOLDER / name
-        if words == ['--check']:
-            same = path.exists() and path.read_bytes() == wanted
-            results.append((f'crates/book_cases/{name} is what is made', same))
-        else:
-            path.write_bytes(wanted)
+    results += stored.kept({'book_cases/stdin': stdin, 'book_cases/stdout': stdout}, words)
     print(f'{len(made)} cases, {len(stdin)} bytes')
     for n in range(9):
         print(f'  {sum(line.split()[0] == str(n) for line in lines)} give {n}')
-    for name, passed in results:
-        if not passed:
-            print('failed:', name)
-    failed = sum(not passed for _, passed in results)
-    print(f'{len(results) - failed} passed, {failed} failed')
-    return 1 if failed else 0
+    return stored.told(results)
 
 
 if __name__ == '__main__':
-    if sys.argv[1:] not in ([], ['--check'], ['--list']):
-        sys.exit(__doc__)
-    sys.exit(main(sys.argv[1:]))
+    stored.run(main, __doc__)

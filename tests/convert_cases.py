@@ -12,18 +12,17 @@ tests/list_cases.py has them. Number i of the room is -1 - i mod 1000 before the
 stdout has a line 'N at P S' for each case, worked out by tests/checkers.py alone: number, place, and
 a checksum of the whole room after the call.
 """
-import pathlib
 import sys
 
 sys.dont_write_bytecode = True
 import checkers
 import list_cases
 import reference
+import stored
 from book_cases import B, LEAST, MOST, SMALL, TRUE, assemble, changed, eq, record
 from list_cases import (COPY, D, DERIVATION, FLAGS, LOOP, MILLION, PAIRS, T, WIDE, Grower, book_of, expand, listed,
                         pieces_of, replaced, spelled, u32, wide_steps)
 
-FOLDER = pathlib.Path(__file__).resolve().parent.parent / 'crates' / 'convert_cases'
 
 TO_TRACE, TO_DERIVATION = 1, 2          # the calls
 SMALLER, LARGER = 500000, MILLION + 1   # numbers of the two buffers
@@ -476,27 +475,14 @@ def main(words):
             print(f'{i + 1}: {one[0]} (book of {len(one[3])}, list of {length}, goal {one[5]} {one[6]}): {line}')
         return 0
     results = list(self_test(made, lines))
-    for name, wanted in [('stdin', stdin), ('stdout', stdout)]:
-        path = FOLDER / name
-        if words == ['--check']:
-            same = path.exists() and path.read_bytes() == wanted
-            results.append((f'crates/convert_cases/{name} is what is made', same))
-        else:
-            path.write_bytes(wanted)
+    results += stored.kept({'convert_cases/stdin': stdin, 'convert_cases/stdout': stdout}, words)
     print(f'{len(made)} cases, {len(stdin)} bytes')
     for n in range(21):
         of = [sum(one[1] == call and line.split()[0] == str(n) for one, line in zip(made, lines))
               for call in (TO_TRACE, TO_DERIVATION)]
         print(f'  {of[0]} to a trace and {of[1]} to a derivation give {n}')
-    for name, passed in results:
-        if not passed:
-            print('failed:', name)
-    failed = sum(not passed for _, passed in results)
-    print(f'{len(results) - failed} passed, {failed} failed')
-    return 1 if failed else 0
+    return stored.told(results)
 
 
 if __name__ == '__main__':
-    if sys.argv[1:] not in ([], ['--check'], ['--list']):
-        sys.exit(__doc__)
-    sys.exit(main(sys.argv[1:]))
+    stored.run(main, __doc__)

@@ -12,17 +12,16 @@ the written ones over again. stdout has a line 'N at P' for each case, worked ou
 tests/checkers.py alone.
 """
 import itertools
-import pathlib
 import sys
 
 sys.dont_write_bytecode = True
 import book_cases
 import checkers
 import reference
+import stored
 from book_cases import (AND, B, LEAST, MOST, NOT, OR, SMALL, TRUE, Dice, assemble, balanced, changed, eq, le, leaning,
                         record, rem, single)
 
-FOLDER = pathlib.Path(__file__).resolve().parent.parent / 'crates' / 'list_cases'
 
 DERIVATION, TRACE = 1, 2        # the calls
 NAMES = {DERIVATION: 'derivation', TRACE: 'trace'}
@@ -1092,27 +1091,14 @@ def main(words):
             print(f'{i + 1}: {one[0]} (book of {len(one[2])}, list of {length}, goal {one[4]} {one[5]}): {line}')
         return 0
     results = list(self_test(made, lines))
-    for name, wanted in [('stdin', stdin), ('stdout', stdout)]:
-        path = FOLDER / name
-        if words == ['--check']:
-            same = path.exists() and path.read_bytes() == wanted
-            results.append((f'crates/list_cases/{name} is what is made', same))
-        else:
-            path.write_bytes(wanted)
+    results += stored.kept({'list_cases/stdin': stdin, 'list_cases/stdout': stdout}, words)
     print(f'{len(made)} cases, {len(stdin)} bytes')
     for n in given(TRACE):
         of = [sum(one[1] == call and line.split()[0] == str(n) for one, line in zip(made, lines))
               for call in NAMES]
         print(f'  {of[0]} derivations and {of[1]} traces give {n}')
-    for name, passed in results:
-        if not passed:
-            print('failed:', name)
-    failed = sum(not passed for _, passed in results)
-    print(f'{len(results) - failed} passed, {failed} failed')
-    return 1 if failed else 0
+    return stored.told(results)
 
 
 if __name__ == '__main__':
-    if sys.argv[1:] not in ([], ['--check'], ['--list']):
-        sys.exit(__doc__)
-    sys.exit(main(sys.argv[1:]))
+    stored.run(main, __doc__)

@@ -9,17 +9,16 @@ both. stdout has the whole reply on a line for each, worked out by tests/models.
 'N at P count C clause K values' and the sixteen values.
 """
 import itertools
-import pathlib
 import sys
 
 sys.dont_write_bytecode = True
 import book_cases
 import models
 import reference
+import stored
 from book_cases import AND, B, LEAST, MOST, NOT, OR, SMALL, TRUE
 from book_cases import Dice, assemble, balanced, changed, eq, i32, le, leaning, record, rem
 
-FOLDER = pathlib.Path(__file__).resolve().parent.parent / 'crates' / 'model_cases'
 FALSE = NOT + TRUE
 
 
@@ -547,26 +546,12 @@ def main(words):
                      for _, data, model in made)
     stdout = ''.join(line + '\n' for line in lines).encode()
     results = list(self_test(made, replies))
-    for name, wanted in [('stdin', stdin), ('stdout', stdout)]:
-        path = FOLDER / name
-        if words == ['--check']:
-            same = path.exists() and path.read_bytes() == wanted
-            results.append((f'crates/model_cases/{name} is what is made', same))
-        else:
-            path.parent.mkdir(parents=True, exist_ok=True)
-            path.write_bytes(wanted)
+    results += stored.kept({'model_cases/stdin': stdin, 'model_cases/stdout': stdout}, words)
     print(f'{len(made)} cases, {len(stdin)} bytes in, {len(stdout)} out')
     for n in [*range(9), *range(21, 26)]:
         print(f'  {sum(reply[0] == n for reply in replies)} give {n}')
-    for name, passed in results:
-        if not passed:
-            print('failed:', name)
-    failed = sum(not passed for _, passed in results)
-    print(f'{len(results) - failed} passed, {failed} failed')
-    return 1 if failed else 0
+    return stored.told(results)
 
 
 if __name__ == '__main__':
-    if sys.argv[1:] not in ([], ['--check'], ['--list']):
-        sys.exit(__doc__)
-    sys.exit(main(sys.argv[1:]))
+    stored.run(main, __doc__)

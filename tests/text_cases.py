@@ -11,17 +11,16 @@ for what was written and for the rest of the room. A text of at most 1,500 bytes
 
 crates/vmt is run on book B. tests/vmt_cases.py runs it on the other books.
 """
-import pathlib
 import sys
 
 sys.dont_write_bytecode = True
 import book_cases
 import printer
 import reference
+import stored
 from book_cases import AND, B, LEAST, MOST, NOT, OR, SMALL, TRUE
 from book_cases import Dice, assemble, balanced, changed, checksum, eq, le, record, rem, single
 
-CRATES = pathlib.Path(__file__).resolve().parent.parent / 'crates'
 BUFFER = 65536          # the printing program's text buffer
 LARGEST_ROOM = 100000   # of crates/text_cases
 SHOWN = 1500            # a longer text is not printed
@@ -422,26 +421,12 @@ def main(words):
         'vmt/stdin': B,
         'vmt/stdout': B_TEXT.encode(),
     }
-    for name, wanted in files.items():
-        path = CRATES / name
-        if words == ['--check']:
-            same = path.exists() and path.read_bytes() == wanted
-            results.append((f'crates/{name} is what is made', same))
-        else:
-            path.parent.mkdir(parents=True, exist_ok=True)
-            path.write_bytes(wanted)
+    results += stored.kept(files, words)
     print(f'{len(made)} books, {len(listed)} cases, {len(files["text_cases/stdin"])} bytes in, {len(files["text_cases/stdout"])} out')
     for n in range(10):
         print(f'  {sum(output.startswith(b"%d at " % n) for output in outputs)} give {n}')
-    for name, passed in results:
-        if not passed:
-            print('failed:', name)
-    failed = sum(not passed for _, passed in results)
-    print(f'{len(results) - failed} passed, {failed} failed')
-    return 1 if failed else 0
+    return stored.told(results)
 
 
 if __name__ == '__main__':
-    if sys.argv[1:] not in ([], ['--check'], ['--list']):
-        sys.exit(__doc__)
-    sys.exit(main(sys.argv[1:]))
+    stored.run(main, __doc__)

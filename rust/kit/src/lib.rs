@@ -25,6 +25,32 @@ pub struct Part {
     pub length: usize,
 }
 
+/// A check of a list, as C has it.
+type Check = unsafe extern "C" fn(
+    book: *const u8,
+    n: usize,
+    list: *const i32,
+    count: usize,
+    relation: u64,
+    values: *const i32,
+    value_count: usize,
+    place: *mut u64,
+) -> u32;
+
+/// A conversion of a list, as C has it.
+type Conversion = unsafe extern "C" fn(
+    book: *const u8,
+    n: usize,
+    list: *const i32,
+    count: usize,
+    relation: u64,
+    values: *const i32,
+    value_count: usize,
+    room: *mut i32,
+    size: usize,
+    place: *mut u64,
+) -> u32;
+
 mod c {
     extern "C" {
         pub fn ruahmitz_book(book: *const u8, n: usize, place: *mut u64) -> u32;
@@ -108,80 +134,41 @@ pub fn text(book: &[u8], room: &mut [u8]) -> Answer {
     Answer { number, place }
 }
 
+/// Makes a check of a list.
+fn check(call: Check, book: &[u8], list: &[i32], relation: u64, values: &[i32]) -> Answer {
+    let mut place = 0;
+    let (n, count, value_count) = (book.len(), list.len(), values.len());
+    let number = unsafe { call(book.as_ptr(), n, list.as_ptr(), count, relation, values.as_ptr(), value_count, &mut place) };
+    Answer { number, place }
+}
+
 /// Whether the list is a derivation of the goal.
 pub fn derivation(book: &[u8], list: &[i32], relation: u64, values: &[i32]) -> Answer {
-    let mut place = 0;
-    let number = unsafe {
-        c::ruahmitz_derivation(
-            book.as_ptr(),
-            book.len(),
-            list.as_ptr(),
-            list.len(),
-            relation,
-            values.as_ptr(),
-            values.len(),
-            &mut place,
-        )
-    };
-    Answer { number, place }
+    check(c::ruahmitz_derivation, book, list, relation, values)
 }
 
 /// Whether the list is a trace that reaches the goal.
 pub fn trace(book: &[u8], list: &[i32], relation: u64, values: &[i32]) -> Answer {
+    check(c::ruahmitz_trace, book, list, relation, values)
+}
+
+/// Makes a conversion of a list.
+fn convert(call: Conversion, book: &[u8], list: &[i32], relation: u64, values: &[i32], room: &mut [i32]) -> Answer {
     let mut place = 0;
-    let number = unsafe {
-        c::ruahmitz_trace(
-            book.as_ptr(),
-            book.len(),
-            list.as_ptr(),
-            list.len(),
-            relation,
-            values.as_ptr(),
-            values.len(),
-            &mut place,
-        )
-    };
+    let (n, count, value_count, size) = (book.len(), list.len(), values.len(), room.len());
+    let (book, list, values, room) = (book.as_ptr(), list.as_ptr(), values.as_ptr(), room.as_mut_ptr());
+    let number = unsafe { call(book, n, list, count, relation, values, value_count, room, size, &mut place) };
     Answer { number, place }
 }
 
 /// Writes a derivation's trace into the room.
 pub fn to_trace(book: &[u8], list: &[i32], relation: u64, values: &[i32], room: &mut [i32]) -> Answer {
-    let mut place = 0;
-    let number = unsafe {
-        c::ruahmitz_to_trace(
-            book.as_ptr(),
-            book.len(),
-            list.as_ptr(),
-            list.len(),
-            relation,
-            values.as_ptr(),
-            values.len(),
-            room.as_mut_ptr(),
-            room.len(),
-            &mut place,
-        )
-    };
-    Answer { number, place }
+    convert(c::ruahmitz_to_trace, book, list, relation, values, room)
 }
 
 /// Writes a trace's derivation into the room.
 pub fn to_derivation(book: &[u8], list: &[i32], relation: u64, values: &[i32], room: &mut [i32]) -> Answer {
-    let mut place = 0;
-    let number = unsafe {
-        c::ruahmitz_to_derivation(
-            book.as_ptr(),
-            book.len(),
-            list.as_ptr(),
-            list.len(),
-            relation,
-            values.as_ptr(),
-            values.len(),
-            room.as_mut_ptr(),
-            room.len(),
-            &mut place,
-        )
-    };
-    Answer { number, place }
+    convert(c::ruahmitz_to_derivation, book, list, relation, values, room)
 }
 
 /// Whether the model excludes the query.
