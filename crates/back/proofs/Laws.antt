@@ -26,11 +26,11 @@ use Rattle.book.specs.Read.{read}
 use Rattle.book.specs.Joined.{Held, record-read, held, count-is}
 use Rattle.facts.specs.Instance.{numberIn}
 use Rattle.steps.specs.Put.{Put, put-length, put-from}
-use Rattle.steps.specs.Walk.{Here, Walk}
-use Rattle.steps.proofs.Places.{start-add, start-far, start-long, walk-from, vars-of, head-of, head-small, body-small, here-at}
+use Rattle.steps.specs.Walk.{Here}
+use Rattle.steps.proofs.Places.{start-add, start-far, start-long, vars-of, head-of, head-small, body-small, here-at}
 use Rattle.back.specs.declared.Block.{Block}
 use Rattle.back.specs.declared.Wanted.{Wanted}
-use Rattle.back.specs.Walk.{Trace, bodyCount, Filled, Marked}
+use Rattle.back.specs.Walk.{Trace, bodyCount, Filled, Kept, Marked}
 use Rattle.back.specs.Gone.{told, Wrote, Due, Stepped, Left, whole, Gone}
 use Rattle.back.proofs.Places.{body-of, trace-start, size-some}
 
@@ -163,32 +163,30 @@ gone-here left = record { left = left; same = refl; long = refl }
 
 -- ---- measuring
 
--- where the steps before place i are counted
-pub record Counted (b : Book) (l : List ℤ) (counts : List ℕ) (i : ℕ) : Type 0 where
-  pub number : ℕ
-  pub at : i ≡ traceStart b flags l number
+-- the first n steps are counted, and step n starts at place i
+pub record Counted (b : Book) (l : List ℤ) (counts : List ℕ) (i n : ℕ) : Type 0 where
+  pub at : i ≡ traceStart b flags l n
   pub long : length counts ≡ 16
-  pub is : (q : ℕ) → q < 16 → getD counts q 0 ≡ length (coming b flags l (some q) number)
+  pub is : (q : ℕ) → q < 16 → getD counts q 0 ≡ length (coming b flags l (some q) n)
 
 zeros : (n q : ℕ) → _≡_ {A = ℕ} (getD (replicate n 0) q 0) 0
 zeros zero q = refl
 zeros (suc n) zero = refl
 zeros (suc n) (suc q) = zeros n q
 
-pub counted-first : (b : Book) (l : List ℤ) (z : ℕ) → z ≡ size b flags → Counted b l (replicate 16 0) z
+pub counted-first : (b : Book) (l : List ℤ) (z : ℕ) → z ≡ size b flags → Counted b l (replicate 16 0) z 0
 counted-first b l z e = record {
-  number = 0;
   at = e ∙ sym (start-first b (size b flags) l (size b flags));
   long = refl;
   is = λ q h. zeros 16 q ∙ sym (ap length (coming-first b flags l (some q)));
 }
 
-pub body-counted : {b : Book} {l : List ℤ} {counts : List ℕ} {i : ℕ} (w : Counted b l counts i) (n : ℕ) → (n ≢ 255 → n < 16)
-    → bodyCount counts n ≡ length (coming b flags l (told n) (w .number))
-body-counted {b} {l} {counts} {i} w n small = go (ℕ-discrete n 255)
+pub body-counted : {b : Book} {l : List ℤ} {counts : List ℕ} {i j : ℕ} (w : Counted b l counts i j) (n : ℕ) → (n ≢ 255 → n < 16)
+    → bodyCount counts n ≡ length (coming b flags l (told n) j)
+body-counted {b} {l} {counts} {i} {j} w n small = go (ℕ-discrete n 255)
   where
-    go : Dec (n ≡ 255) → bodyCount counts n ≡ length (coming b flags l (told n) (w .number))
-    go (yes y) = rw (told-none n y) (sym (count-none counts n y) ∙ sym (ap length (coming-none b flags l (w .number))))
+    go : Dec (n ≡ 255) → bodyCount counts n ≡ length (coming b flags l (told n) j)
+    go (yes y) = rw (told-none n y) (sym (count-none counts n y) ∙ sym (ap length (coming-none b flags l j)))
     go (no y) = rw (told-some n y) (sym (count-some counts n y) ∙ w .is n (small y))
 
 module _ (s : List ℕ) (h : Header) (l : List ℤ) (z : ℕ) (t : Trace s h l z) where
@@ -198,54 +196,52 @@ module _ (s : List ℕ) (h : Header) (l : List ℤ) (z : ℕ) (t : Trace s h l z
   pub here-of : (i j : ℕ) → i ≡ traceStart (bookIn s h) flags l j → i < length l → Here s h l z i
   here-of i j e q = here-at s h l z (t .walk) j i (e ∙ sym (trace-start s h l z t j)) q
 
-  module _ {counts : List ℕ} {i : ℕ} (w : Counted (bookIn s h) l counts i) where
+  module _ {counts : List ℕ} {i n : ℕ} (w : Counted (bookIn s h) l counts i n) where
     pub counted-here : i < length l → Here s h l z i
-    counted-here = here-of i (w .number) (w .at)
+    counted-here = here-of i n (w .at)
 
     module _ (q : i < length l) (c : Clause) (held : Held s h (numberIn s h l i) c) where
-      inside : traceStart (bookIn s h) flags l (w .number) < length l
+      inside : traceStart (bookIn s h) flags l n < length l
       inside = rw (w .at) at q
 
-      vars-here : clauseHere (bookIn s h) l (traceStart (bookIn s h) flags l (w .number)) .vars ≡ c .variables
+      vars-here : clauseHere (bookIn s h) l (traceStart (bookIn s h) flags l n) .vars ≡ c .variables
       vars-here = rw (w .at) at (vars-of s h (numberIn s h l i) c held)
 
-      head-here : clauseHere (bookIn s h) l (traceStart (bookIn s h) flags l (w .number)) .head .rel ≡ c .head
+      head-here : clauseHere (bookIn s h) l (traceStart (bookIn s h) flags l n) .head .rel ≡ c .head
       head-here = rw (w .at) at (head-of s h (numberIn s h l i) c held)
 
-      body-here : told (c .body) ≡ relationOf (clauseHere (bookIn s h) l (traceStart (bookIn s h) flags l (w .number)) .body)
+      body-here : told (c .body) ≡ relationOf (clauseHere (bookIn s h) l (traceStart (bookIn s h) flags l n) .body)
       body-here = rw (w .at) at (body-of s h (numberIn s h l i) c held)
 
       -- the next step's start
-      next : i + (1 + c .variables) + z ≡ traceStart (bookIn s h) flags l (w .number + 1)
-      next = omega (arith, start-next (bookIn s h) (size (bookIn s h) flags) l (size (bookIn s h) flags) (w .number), w .at, t .size, vars-here)
+      next : i + (1 + c .variables) + z ≡ traceStart (bookIn s h) flags l (n + 1)
+      next = omega (arith, start-next (bookIn s h) (size (bookIn s h) flags) l (size (bookIn s h) flags) n, w .at, t .size, vars-here)
 
       pub counted-small : bodyCount counts (c .body) ≤ i
       counted-small =
           let small = body-small s h (numberIn s h l i) c held (t .walk .good) in
-          omega (arith, body-counted w (c .body) small, coming-length (bookIn s h) flags l (w .number) (told (c .body)), w .at)
+          omega (arith, body-counted w (c .body) small, coming-length (bookIn s h) flags l n (told (c .body)), w .at)
 
-      pub counted-more : {x : ℕ} → x ≡ bodyCount counts (c .body) + (1 + c .variables) → Counted (bookIn s h) l (set counts (c .head) x) (i + (1 + c .variables) + z)
+      pub counted-more : {x : ℕ} → x ≡ bodyCount counts (c .body) + (1 + c .variables) → Counted (bookIn s h) l (set counts (c .head) x) (i + (1 + c .variables) + z) (n + 1)
       counted-more {x} e = record {
-        number = w .number + 1;
         at = next;
         long = length-set counts (c .head) x ∙ w .long;
         is = λ r k. go r k (ℕ-discrete r (c .head));
       }
         where
-          go : (r : ℕ) → r < 16 → Dec (r ≡ c .head) → getD (set counts (c .head) x) r 0 ≡ length (coming (bookIn s h) flags l (some r) (w .number + 1))
+          go : (r : ℕ) → r < 16 → Dec (r ≡ c .head) → getD (set counts (c .head) x) r 0 ≡ length (coming (bookIn s h) flags l (some r) (n + 1))
           go r k (yes y) =
               let b = bookIn s h in
-              let n = w .number in
               let size : c .head < length counts = omega (arith, head-small s h (numberIn s h l i) c held (t .walk .good), w .long) in
               let own = body-counted w (c .body) (body-small s h (numberIn s h l i) c held (t .walk .good)) in
               let whole = wrote-length b l every-of n inside (c .head) head-here in
               rw y (getD-set-same counts (c .head) x 0 size ∙ omega (arith, e, rw body-here at own, whole, vars-here))
           go r k (no y) =
               getD-set-other counts (c .head) r x 0 y ∙ w .is r k
-              ∙ sym (ap length (coming-other (bookIn s h) flags l (w .number) inside r (λ m. y (sym m ∙ head-here))))
+              ∙ sym (ap length (coming-other (bookIn s h) flags l n inside r (λ m. y (sym m ∙ head-here))))
 
-  pub counted-all : {counts : List ℕ} {i : ℕ} → Counted (bookIn s h) l counts i → length l ≤ i → (r : ℕ) → r < 16 → getD counts r 0 ≡ length (asDerivation (bookIn s h) flags r l)
-  counted-all w q r k = w .is r k ∙ ap length (coming-all (bookIn s h) flags l r (w .number) (rw (w .at) at q))
+  pub counted-all : {counts : List ℕ} {i n : ℕ} → Counted (bookIn s h) l counts i n → length l ≤ i → (r : ℕ) → r < 16 → getD counts r 0 ≡ length (asDerivation (bookIn s h) flags r l)
+  counted-all {counts} {i} {n} w q r k = w .is r k ∙ ap length (coming-all (bookIn s h) flags l r n (rw (w .at) at q))
 
 -- ---- one step back
 
@@ -286,72 +282,50 @@ fill-more b z l from block n i h e q each k m = go (ℕ-discrete k n)
 
 -- ---- the start of every 512th step
 
-pub record Marking (b : Book) (z : ℕ) (l : List ℤ) (marks : List ℕ) (i m : ℕ) : Type 0 where
-  pub long : length marks ≡ 1024
-  pub few : m ≤ 1024
-  pub each : (q : ℕ) → q < m → getD marks q 0 ≡ start b z l z (q * 512)
-  pub at : i < length l → i ≡ start b z l z (m * 512)
-  pub all : length l ≤ i → length l ≤ start b z l z (m * 512)
-
-pub marking-first : (b : Book) (z : ℕ) (l : List ℤ) (marks : List ℕ) → length marks ≡ 1024 → Marking b z l marks z 0
-marking-first b z l marks h = record {
-  long = h;
-  few = omega arith;
-  each = λ q k. absurd (let w : ⊥ = omega arith in w);
-  at = λ _. sym (start-first b z l z);
-  all = λ k. rw (start-first b z l z) k;
+pub kept-here : (marks : List ℕ) (k i m : ℕ) → length marks ≡ 1024 → m * 512 ≡ k → m < 1024 → Kept marks k i (set marks m i)
+kept-here marks k i m long e small = record {
+  long = length-set marks m i ∙ long;
+  own = λ q y. let x : q ≡ m = omega arith in rw x (getD-set-same marks m i 0 (omega arith));
+  rest = λ q y. getD-set-other marks m q i 0 (λ x. y (rw x e));
 }
 
-module _ (s : List ℕ) (h : Header) (l : List ℤ) (z : ℕ) (t : Trace s h l z) (marks : List ℕ) (i m : ℕ) (w : Marking (bookIn s h) z l marks i m) (q : i < length l) where
-  far : m * 1024 ≤ i
-  far = omega (arith, w .at q, start-long (bookIn s h) z l z (size-some s h l z t) (m * 512))
+pub kept-not : (marks : List ℕ) (k i : ℕ) → length marks ≡ 1024 → ((q : ℕ) → q * 512 ≢ k) → Kept marks k i marks
+kept-not marks k i long n = record { long = long; own = λ q y. absurd (n q y); rest = λ _ _. refl }
 
-  pub marking-small : m < 1024
-  marking-small = omega (arith, far, t .few)
+-- of the first k steps
+pub record Marking (b : Book) (z : ℕ) (l : List ℤ) (marks : List ℕ) (k : ℕ) : Type 0 where
+  pub long : length marks ≡ 1024
+  pub few : k ≤ 500000
+  pub each : (q : ℕ) → q * 512 < k → getD marks q 0 ≡ start b z l z (q * 512)
 
-  pub marking-walk : Walk s h l z i
-  marking-walk = rw (w .at q) (walk-from s h l z (t .walk) (m * 512))
+pub marking-first : (b : Book) (z : ℕ) (l : List ℤ) (marks : List ℕ) → length marks ≡ 1024 → Marking b z l marks 0
+marking-first b z l marks h = record { long = h; few = omega arith; each = λ q k. absurd (let w : ⊥ = omega arith in w) }
 
-  module _ (block : List ℕ) (r : Block) (f : Filled (bookIn s h) z l i block r) where
-    upto : r .next ≤ start (bookIn s h) z l i 512
-    upto = omega (arith, f .next, f .few, start-far (bookIn s h) z l i (size-some s h l z t) (r .count) (512 - r .count), ap (start (bookIn s h) z l i) same)
-      where
-        same : r .count + (512 - r .count) ≡ 512
-        same = omega (arith, f .few)
+module _ (s : List ℕ) (h : Header) (l : List ℤ) (z : ℕ) (t : Trace s h l z) {counts : List ℕ} {i k : ℕ} (c : Counted (bookIn s h) l counts i k) {marks : List ℕ} (w : Marking (bookIn s h) z l marks k) where
+  at : i ≡ start (bookIn s h) z l z k
+  at = c .at ∙ sym (trace-start s h l z t k)
 
-    later : start (bookIn s h) z l i 512 ≡ start (bookIn s h) z l z ((m + 1) * 512)
-    later =
-        let y : (m + 1) * 512 ≡ m * 512 + 512 = omega arith in
-        rw (y, start-add (bookIn s h) z l z (m * 512) 512, ← (w .at q))
+  pub marking-more : {e : List ℕ} → i < length l → Kept marks k i e → Marking (bookIn s h) z l e (k + 1)
+  marking-more {e} q y = record {
+    long = y .long;
+    few = omega (arith, at, start-long (bookIn s h) z l z (size-some s h l z t) k, t .few);
+    each = λ m x. each m x (ℕ-discrete (m * 512) k);
+  }
+    where
+      each : (m : ℕ) → m * 512 < k + 1 → Dec (m * 512 ≡ k) → getD e m 0 ≡ start (bookIn s h) z l z (m * 512)
+      each m x (yes v) = y .own m v ∙ rw v at
+      each m x (no v) = y .rest m v ∙ w .each m (omega arith)
 
-    full : r .next < length l → r .count ≡ 512
-    full k = go (decLt (r .count) 512)
-      where
-        go : Dec (r .count < 512) → r .count ≡ 512
-        go (yes y) = absurd (let x : ⊥ = omega (arith, f .full y) in x)
-        go (no y) = omega (arith, f .few)
-
-    pub marking-on : i < r .next
-    marking-on = go (decLt 0 (r .count))
-      where
-        go : Dec (0 < r .count) → i < r .next
-        go (yes y) = omega (arith, f .next, start-long (bookIn s h) z l i (size-some s h l z t) (r .count))
-        go (no y) =
-            let x : r .count ≡ 0 = omega arith in
-            absurd (let v : ⊥ = omega (arith, f .full (omega arith), f .next, ap (start (bookIn s h) z l i) x, start-first (bookIn s h) z l i) in v)
-
-    pub marking-more : Marking (bookIn s h) z l (set marks m i) (r .next) (m + 1)
-    marking-more = record {
-      long = length-set marks m i ∙ w .long;
-      few = omega (arith, marking-small);
-      each = λ k y. each k y (ℕ-discrete k m);
-      at = λ k. f .next ∙ ap (start (bookIn s h) z l i) (full k) ∙ later;
-      all = λ k. omega (arith, upto, later);
-    }
-      where
-        each : (k : ℕ) → k < m + 1 → Dec (k ≡ m) → getD (set marks m i) k 0 ≡ start (bookIn s h) z l z (k * 512)
-        each k y (yes e) = rw e (getD-set-same marks m i 0 (omega (arith, w .long, marking-small)) ∙ w .at q)
-        each k y (no e) = getD-set-other marks m k i 0 e ∙ w .each k (omega arith)
+  pub marked-all : {m : ℕ} → length l ≤ i → k ≤ m * 512 → m * 512 < k + 512 → Marked (bookIn s h) z l marks m
+  marked-all {m} q low high = record {
+    long = w .long;
+    few = omega (arith, w .few);
+    each = λ x y. w .each x (omega arith);
+    all = omega (arith, at, start-far (bookIn s h) z l z (size-some s h l z t) k (m * 512 - k), ap (start (bookIn s h) z l z) same);
+  }
+    where
+      same : k + (m * 512 - k) ≡ m * 512
+      same = omega arith
 
 -- ---- a block
 

@@ -1,5 +1,6 @@
 -- A trace's steps by their places, as the walk over them finds them.
 use mathlib.Core.Path.{_≡_}
+use mathlib.Core.Logic.{_≢_}
 use mathlib.Core.List.{List}
 use Prim.Native.Nat.{ℕ, _*_, _≤_, _<_}
 use lib.ListN.{length, getD}
@@ -8,12 +9,14 @@ use lib.IntN.{ℤ}
 use Rattle.meaning.specs.Book.{Book}
 use Rattle.meaning.specs.State.{flags}
 use Rattle.lists.specs.Trace as traces
+use Rattle.lists.specs.Convert.{asDerivation}
 use Rattle.lists.specs.Places.{start}
 use Rattle.cursor.specs.Steps.{pick}
 use Rattle.book.specs.declared.Header.{Header}
 use Rattle.steps.specs.Walk.{Walk}
 use Rattle.book.specs.Meaning.{bookIn}
 use Rattle.back.specs.declared.Block.{Block}
+use Rattle.back.specs.declared.Measured.{Measured}
 
 -- a trace whose states have z numbers
 pub record Trace (s : List ℕ) (h : Header) (l : List ℤ) (z : ℕ) : Type 0 where
@@ -33,9 +36,20 @@ pub record Filled (b : Book) (z : ℕ) (l : List ℤ) (i : ℕ) (block : List �
   pub next : r .next ≡ start b z l i (r .count)
   pub full : r .count < 512 → length l ≤ r .next
 
+-- step k's start i is kept where k is a multiple of 512, and the others stay
+pub record Kept (marks : List ℕ) (k i : ℕ) (r : List ℕ) : Type 0 where
+  pub long : length r ≡ 1024
+  pub own : (q : ℕ) → q * 512 ≡ k → getD r q 0 ≡ i
+  pub rest : (q : ℕ) → q * 512 ≢ k → getD r q 0 ≡ getD marks q 0
+
 -- the start of every 512th step: r of them, and no step starts after them
 pub record Marked (b : Book) (z : ℕ) (l : List ℤ) (marks : List ℕ) (r : ℕ) : Type 0 where
   pub long : length marks ≡ 1024
   pub few : r ≤ 1024
   pub each : (q : ℕ) → q < r → getD marks q 0 ≡ start b z l z (q * 512)
   pub all : length l ≤ start b z l z (r * 512)
+
+-- the derivation's length, and the starts
+pub record Measures (b : Book) (z : ℕ) (l : List ℤ) (relation : ℕ) (marks : List ℕ) (r : Measured) : Type 0 where
+  pub is : r .numbers ≡ length (asDerivation b flags relation l)
+  pub marked : Marked b z l marks (r .marks)

@@ -9,8 +9,14 @@ ghost use Rattle.lists.specs.Convert.{asDerivation};
 ghost use Rattle.lists.specs.Places.{start};
 ghost use Rattle.book.specs.Meaning.{bookIn};
 ghost use Rattle.steps.specs.Walk.{Here, Walk};
-ghost use Rattle.back.specs.Walk.{Trace, bodyCount, Filled, Marked};
+ghost use Rattle.back.specs.Walk.{Trace, bodyCount, Kept, Measures, Filled};
 ghost use Rattle.back.specs.Gone.{Wrote, Due, Stepped, Left, Gone};
+
+// How many numbers the derivation has, and how many steps' starts are kept.
+pub struct Measured {
+    pub numbers: usize,
+    pub marks: usize,
+}
 
 // How many starts a block found, and the place after them.
 pub struct Block {
@@ -41,22 +47,46 @@ fn body_count(counts: &[usize; 16], body: u8) -> usize
     counts[body as usize]
 }
 
+// keeps the start i of step k, where k is a multiple of 512
+fn keep(marks: &mut [usize; 1024], k: usize, i: usize)
+    requires { ⌜ (length (now marks) ≡ 1024) × (k < 524288) ⌝ }
+    ensures { λ _. ⌜ Kept (now (marks .entry)) k i (now (marks .exit)) ⌝ }
+{
+    if k % 512 == 0 {
+        marks[k / 512] = i;
+    }
+}
+
 // How many numbers the derivation has: over the trace's steps, for each relation those of the derivation of its present fact.
-pub fn measure(book: &[u8], h: book::Header, list: &[i32], size: usize, relation: usize) -> usize
+// The same walk keeps the start of every 512th step.
+pub fn measure(
+    book: &[u8],
+    h: book::Header,
+    list: &[i32],
+    size: usize,
+    relation: usize,
+    marks: &mut [usize; 1024],
+) -> Measured
     requires { ⌜ Trace (now book) h (now list) size ⌝ }
-    requires { ⌜ relation < 16 ⌝ }
-    ensures { λ r. ⌜ r ≡ length (asDerivation (bookIn (now (book .entry)) h) flags relation (now (list .entry))) ⌝ }
+    requires { ⌜ (relation < 16) × (length (now marks) ≡ 1024) ⌝ }
+    ensures { λ r. ⌜ Measures (bookIn (now (book .entry)) h) size (now (list .entry)) relation (now (marks .exit)) r ⌝ }
 {
     let mut counts = [0usize; 16];
     let mut i = size;
+    let mut k = 0;
     while i < list.len() {
+        keep(marks, k, i);
         let c = steps::clause_at(book, h, list, i);
         let n = 1 + wide(c.variables);
         let head = c.head as usize;
         counts[head] = body_count(&counts, c.body) + n;
         i = i + n + size;
+        k += 1;
     }
-    counts[relation]
+    Measured {
+        numbers: counts[relation],
+        marks: (k + 511) / 512,
+    }
 }
 
 // the starts of up to 512 steps from `from` on
@@ -83,24 +113,6 @@ fn fill(
         n += 1;
     }
     Block { count: n, next: i }
-}
-
-// the start of every 512th step, and how many there are
-fn mark(book: &[u8], h: book::Header, list: &[i32], size: usize, marks: &mut [usize; 1024]) -> usize
-    requires { ⌜ Trace (now book) h (now list) size ⌝ }
-    requires { ⌜ length (now marks) ≡ 1024 ⌝ }
-    ensures { λ r. ⌜ Marked (bookIn (now (book .entry)) h) size (now (list .entry)) (now (marks .exit)) r ⌝ }
-{
-    let mut block = [0usize; 512];
-    let mut i = size;
-    let mut m = 0;
-    while i < list.len() {
-        marks[m] = i;
-        let b = fill(book, h, list, size, i, &mut block);
-        i = b.next;
-        m += 1;
-    }
-    m
 }
 
 // the n numbers of the step at i, in front of `at`
@@ -166,28 +178,29 @@ fn block_back(
     w
 }
 
-// Writes the derivation's n numbers to the front of the room.
+// Writes the derivation to the front of the room.
 pub fn write(
     book: &[u8],
     h: book::Header,
     list: &[i32],
     size: usize,
     relation: u8,
-    n: usize,
+    marks: &[usize; 1024],
+    measured: Measured,
     room: &mut [i32],
 )
     requires { ⌜ Trace (now book) h (now list) size ⌝ }
-    requires { ⌜ (relation < 16) × (n ≡ length (asDerivation (bookIn (now book) h) flags relation (now list))) × (n ≤ length (now room)) ⌝ }
-    ensures { λ _. ⌜ now (room .exit) ≡ asDerivation (bookIn (now (book .entry)) h) flags relation (now (list .entry)) ++ drop n (now (room .entry)) ⌝ }
+    requires { ⌜ Measures (bookIn (now book) h) size (now list) relation (now marks) measured ⌝ }
+    requires { ⌜ (relation < 16) × (measured .numbers ≤ length (now room)) ⌝ }
+    ensures { λ _. ⌜ now (room .exit) ≡ asDerivation (bookIn (now (book .entry)) h) flags relation (now (list .entry)) ++ drop (measured .numbers) (now (room .entry)) ⌝ }
 {
-    let mut marks = [0usize; 1024];
-    let mut m = mark(book, h, list, size, &mut marks);
+    let mut m = measured.marks;
     let mut w = Wanted {
         relation: relation,
-        at: n,
+        at: measured.numbers,
     };
     while 0 < m {
         m -= 1;
-        w = block_back(book, h, list, size, &marks, m, w, room);
+        w = block_back(book, h, list, size, marks, m, w, room);
     }
 }

@@ -51,11 +51,13 @@ fn derived(
     ensures { λ r. ⌜ Replies (written ok (asDerivation (bookIn (now (book .entry)) h) state.flags relation (now (list .entry))) (now (room .entry))) r (now (room .exit)) ⌝ }
 {
     let size = state::size(book, h);
-    let n = back::measure(book, h, list, size, relation);
+    let mut marks = [0usize; 1024];
+    let measured = back::measure(book, h, list, size, relation, &mut marks);
+    let n = measured.numbers;
     if room.len() < n {
         return refuse(9, n);
     }
-    back::write(book, h, list, size, relation as u8, n, room);
+    back::write(book, h, list, size, relation as u8, &marks, measured, room);
     Converted::Wrote(n)
 }
 

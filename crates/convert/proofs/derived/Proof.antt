@@ -1,4 +1,5 @@
 use borrow.Author.Needs.{needs}
+use mathlib.Core.Path.{refl}
 use Rattle.meaning.specs.State.{flags}
 use Rattle.lists.specs.Convert.{asDerivation}
 use Rattle.book.specs.Meaning.{bookIn}
@@ -10,20 +11,24 @@ size-requires : tie.Need-size-requires
 size-requires c κs = c .before .pre .0 .walk .good
 
 measure-requires : tie.Need-measure-requires
-measure-requires c κs = (trace-at (c .before .before .pre .0) (c .size .ensures .is), c .before .before .pre .1)
+measure-requires c κs = let (trace, small) = c .before .before .before .pre in (trace-at trace (c .before .size .ensures .is), (small, refl))
 
 returns : tie.Need-returns
 returns c =
-    let a = c .before .before .before .before .before .args in
-    rw (c .refuse .ensures) (replies-needs (asDerivation (bookIn (a .book .now) (a .h)) flags (a .relation) (a .list .now)) (a .room .now) (c .before .before .measure .result) (c .before .before .measure .ensures) (c .before .if1 .taken))
+    let a = c .before .before .before .before .before .before .args in
+    let m = c .before .before .measure in
+    rw (c .refuse .ensures) (replies-needs (asDerivation (bookIn (a .book .now) (a .h)) flags (a .relation) (a .list .now)) (a .room .now) (m .result .numbers) (m .ensures .is) (c .before .if1 .taken))
 
 write-requires : tie.Need-write-requires
-write-requires c κs = (trace-at (c .before .before .before .before .before .pre .0) (c .before .before .before .size .ensures .is), (c .before .before .before .before .before .pre .1, c .before .before .measure .ensures, c .before .if1 .left))
+write-requires c κs =
+    let (trace, small) = c .before .before .before .before .before .before .before .pre in
+    (trace-at trace (c .before .before .before .before .before .size .ensures .is), (c .before .before .before .measure .ensures, (small, c .before .before .if1 .left)))
 
 returns-2 : tie.Need-returns-2
 returns-2 c =
-    let a = c .before .before .before .before .before .before .before .args in
-    replies-wrote (asDerivation (bookIn (a .book .now) (a .h)) flags (a .relation) (a .list .now)) (a .room .now) (c .before .before .before .before .measure .result) (c .before .before .before .before .measure .ensures) _ (c .before .before .before .if1 .left) (c .before .write .ensures)
+    let a = c .before .before .before .before .before .before .before .before .before .args in
+    let m = c .before .before .before .before .before .measure in
+    replies-wrote (asDerivation (bookIn (a .book .now) (a .h)) flags (a .relation) (a .list .now)) (a .room .now) (m .result .numbers) (m .ensures .is) _ (c .before .before .before .before .if1 .left) (c .before .write .ensures)
 
 pub derived-spec : {M : Type 1} → statement M
 derived-spec =
