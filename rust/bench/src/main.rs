@@ -37,7 +37,7 @@ fn least(work: &mut Work) -> (f64, f64) {
     let (mut kit, mut judge) = (f64::MAX, f64::MAX);
     let mut repeats = 1;
     let begin = clock();
-    while clock() - begin < 0.6 {
+    while clock() - begin < 2.0 {
         let spent = timed(repeats, &mut work.kit);
         kit = kit.min(spent / f64::from(repeats));
         judge = judge.min(timed(repeats, &mut work.judge) / f64::from(repeats));
