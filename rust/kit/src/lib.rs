@@ -25,6 +25,9 @@ pub struct Part {
     pub length: usize,
 }
 
+/// What stands behind a pointer before a call. Each call writes through every pointer; where one did not, this would show.
+const UNWRITTEN: u64 = u64::MAX;
+
 /// A check of a list, as C has it.
 type Check = unsafe extern "C" fn(
     book: *const u8,
@@ -115,28 +118,28 @@ mod c {
 
 /// Reads a book.
 pub fn book(book: &[u8]) -> Answer {
-    let mut place = 0;
+    let mut place = UNWRITTEN;
     let number = unsafe { c::ruahmitz_book(book.as_ptr(), book.len(), &mut place) };
     Answer { number, place }
 }
 
 /// The constraint of a numbered clause, as a part of the book.
 pub fn constraint(book: &[u8], clause: u64) -> Part {
-    let mut start = 0;
+    let mut start = UNWRITTEN;
     let length = unsafe { c::ruahmitz_constraint(book.as_ptr(), book.len(), clause, &mut start) };
     Part { start, length }
 }
 
 /// Prints the transition system into the room.
 pub fn text(book: &[u8], room: &mut [u8]) -> Answer {
-    let mut place = 0;
+    let mut place = UNWRITTEN;
     let number = unsafe { c::ruahmitz_text(book.as_ptr(), book.len(), room.as_mut_ptr(), room.len(), &mut place) };
     Answer { number, place }
 }
 
 /// Makes a check of a list.
 fn check(call: Check, book: &[u8], list: &[i32], relation: u64, values: &[i32]) -> Answer {
-    let mut place = 0;
+    let mut place = UNWRITTEN;
     let (n, count, value_count) = (book.len(), list.len(), values.len());
     let number = unsafe { call(book.as_ptr(), n, list.as_ptr(), count, relation, values.as_ptr(), value_count, &mut place) };
     Answer { number, place }
@@ -154,7 +157,7 @@ pub fn trace(book: &[u8], list: &[i32], relation: u64, values: &[i32]) -> Answer
 
 /// Makes a conversion of a list.
 fn convert(call: Conversion, book: &[u8], list: &[i32], relation: u64, values: &[i32], room: &mut [i32]) -> Answer {
-    let mut place = 0;
+    let mut place = UNWRITTEN;
     let (n, count, value_count, size) = (book.len(), list.len(), values.len(), room.len());
     let (book, list, values, room) = (book.as_ptr(), list.as_ptr(), values.as_ptr(), room.as_mut_ptr());
     let number = unsafe { call(book, n, list, count, relation, values, value_count, room, size, &mut place) };
@@ -173,8 +176,8 @@ pub fn to_derivation(book: &[u8], list: &[i32], relation: u64, values: &[i32], r
 
 /// Whether the model excludes the query.
 pub fn model(book: &[u8], model: &[u8]) -> ModelAnswer {
-    let (mut place, mut count, mut clause) = (0, 0, 0);
-    let mut values = [0; 16];
+    let (mut place, mut count, mut clause) = (UNWRITTEN, UNWRITTEN, UNWRITTEN);
+    let mut values = [i32::MIN; 16];
     let number = unsafe {
         c::ruahmitz_model(
             book.as_ptr(),
