@@ -4,11 +4,11 @@ use native.Mathlib.Omega.{arith}
 use mathlib.Core.Path.{_≡_, refl, sym, ap, _∙_}
 use mathlib.Core.Logic.{_⊎_, inl, inr}
 use mathlib.Core.List.{List}
-use lib.ListN.{length, getD, take, length-take}
+use lib.ListN.{length, getD, take}
 use lib.Seq.{getD-take}
 use lib.Dec.{eqb}
 use borrow.Author.Tests.{eq-eqb, ne-eqb}
-use Rattle.whole.specs.Bytes.{u16At}
+use Rattle.whole.specs.Bytes.{front-byte}
 use Rattle.cursor.specs.declared.Cursor.{Cursor}
 use Rattle.cursor.specs.declared.Clause.{Clause}
 use Rattle.cursor.specs.Steps.{pick}
@@ -57,9 +57,6 @@ module _ (s : List ℕ) (p : ℕ) {q : ℕ} where
 
 -- of the front of s up to the index, where n relations stand
 module _ (s : List ℕ) (start n : ℕ) (room : n ≤ start) (few : n ≤ 16) (whole : start ≤ length s) where
-  front-at : (i : ℕ) → i < length (take start s) → (i < length s) × (getD (take start s) i 0 ≡ getD s i 0)
-  front-at i h = let z = length-take start s in (omega arith, getD-take start s i 0 (omega arith))
-
   front-arity : (r : ℕ) → r < n → getD (take start s) r 0 ≡ getD s r 0
   front-arity r h = getD-take start s r 0 (omega arith)
 
@@ -68,16 +65,16 @@ module _ (s : List ℕ) (start n : ℕ) (room : n ≤ start) (few : n ≤ 16) (w
   body-past v c b e (inr (z, w)) = let k = front-arity b (w .below) in let a = at-of (w .next) in omega (arith, past-some s (c .at) b z)
 
   body-is : (v : ℕ) (c : Cursor) (b : ℕ) (e : Cursor) → IsBody (take start s) n v c b e → (c .at < length s) × (b ≡ getD s (c .at) 0) × ((b ≡ 255 → ⊥) → b < length s)
-  body-is v c b e (inl (z, w)) = let (t, q) = front-at (c .at) (w .there) in (t, w .is ∙ q, λ k. absurd (k z))
-  body-is v c b e (inr (z, w)) = let (t, q) = front-at (c .at) (w .there) in (t, w .is ∙ q, λ k. omega (arith, w .below))
+  body-is v c b e (inl (z, w)) = let (t, q) = front-byte s start (c .at) (w .there) in (t, w .is ∙ q, λ k. absurd (k z))
+  body-is v c b e (inr (z, w)) = let (t, q) = front-byte s start (c .at) (w .there) in (t, w .is ∙ q, λ k. omega (arith, w .below))
 
   pub laid : (c : Cursor) (l : Clause) (e : Cursor) → IsParts (take start s) n c l e → Room s (c .at) × (recordOf s (c .at) ≡ l)
   laid c l e w =
-      let (t, q) = front-at (c .at) (w .variables .here .there) in
+      let (t, q) = front-byte s start (c .at) (w .variables .here .there) in
       let m : w .first .at ≡ c .at + 1 = at-of (w .variables .here .next) in
       let (u, b, k) = body-is (l .variables) (w .first) (l .body) (w .second) (w .body) in
       let f : w .second .at ≡ pastArguments s (w .first .at) (l .body) = body-past (l .variables) (w .first) (l .body) (w .second) (w .body) in
-      let (x, y) = front-at (w .second .at) (w .head .there) in
+      let (x, y) = front-byte s start (w .second .at) (w .head .there) in
       let g : l .body ≡ getD s (c .at + 1) 0 = b ∙ ap (λ (i : ℕ). getD s i 0) m in
       let seat : w .second .at ≡ pastArguments s (c .at + 1) (getD s (c .at + 1) 0) = f ∙ rw (m, g) in
       let top : l .head ≡ getD s (pastArguments s (c .at + 1) (getD s (c .at + 1) 0)) 0 = w .head .is ∙ y ∙ ap (λ (i : ℕ). getD s i 0) seat in

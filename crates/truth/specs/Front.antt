@@ -4,11 +4,10 @@ use native.Mathlib.Omega.{arith}
 use mathlib.Core.Path.{_≡_, refl, sym, ap, ap₂, _∙_}
 use mathlib.Core.List.{List}
 use lib.ListN.{length, getD, take, length-take}
-use lib.Seq.{getD-take}
 use lib.Dec.{eqb}
 use mathlib.Core.Bool.{false}
 use borrow.Author.Tests.{lt-ltb, le-leb}
-use Rattle.whole.specs.Bytes.{u16At, u32At, i16At, i32At}
+use Rattle.whole.specs.Bytes.{front-byte, u16At, u32At, i16At, i32At}
 use Rattle.meaning.specs.Constraint.{Constraint}
 use Rattle.cursor.specs.declared.Cursor.{Cursor}
 use Rattle.cursor.specs.declared.Byte.the-variants as bytes
@@ -28,9 +27,6 @@ module _ (s : List ℕ) (j : ℕ) where
   abbrev f : List ℕ
   f = take j s
 
-  byte-same : (i : ℕ) → i < length f → (i < length s) × (getD f i 0 ≡ getD s i 0)
-  byte-same i h = let z = length-take j s in (omega arith, getD-take j s i 0 (omega arith))
-
   inside : (n : ℕ) → n ≤ length f → n ≤ length s
   inside n h = let z = length-take j s in omega arith
 
@@ -38,7 +34,7 @@ module _ (s : List ℕ) (j : ℕ) where
 
   u16-same : (p : ℕ) → p + 2 ≤ length f → u16At f p ≡ u16At s p
   unfolding u16At
-  u16-same p h = rw (byte-same p (omega arith) .1, byte-same (p + 1) (omega arith) .1)
+  u16-same p h = rw (front-byte s j p (omega arith) .1, front-byte s j (p + 1) (omega arith) .1)
 
   i16-same : (p : ℕ) → p + 2 ≤ length f → i16At f p ≡ i16At s p
   unfolding i16At
@@ -63,7 +59,7 @@ module _ (s : List ℕ) (j : ℕ) where
   unfolding byteAt pick
   byte-front c q =
       let w = byte-read f c q in
-      let (t, g) = byte-same (c .at) (w .there) in
+      let (t, g) = front-byte s j (c .at) (w .there) in
       rw (lt-ltb (c .at) (length s) t, w .next, w .is, g)
 
   skip-front : (n : ℕ) (c : Cursor) {e : Cursor} → skipAt f n c ≡ steps.Moved e → skipAt s n c ≡ steps.Moved e

@@ -4,7 +4,8 @@ use native.Mathlib.Nat.{mod-lt, mod-eq-of-lt, div-eq-of-lt, div-add-mod', add-mu
 use native.Mathlib.Omega.{arith}
 use mathlib.Core.Path.{_≡_, refl, sym, ap, _∙_}
 use mathlib.Core.List.{List, [], _∷_, _++_}
-use lib.ListN.{getD}
+use lib.ListN.{length, getD, take, length-take}
+use lib.Seq.{getD-take}
 use lib.IntN.{ℤ}
 use mir.Syntax.{Width, w16, w32}
 use mir.Val.{toZ, ofZ}
@@ -22,6 +23,10 @@ i16At s p = toZ w16 (u16At s p)
 
 unfoldable pub i32At : List ℕ → ℕ → ℤ
 i32At s p = toZ w32 (u32At s p)
+
+-- a byte of the front of a list is that byte of the list
+pub front-byte : (s : List ℕ) (j i : ℕ) → i < length (take j s) → (i < length s) × (getD (take j s) i 0 ≡ getD s i 0)
+front-byte s j i h = let z = length-take j s in (omega arith, getD-take j s i 0 (omega arith))
 
 -- a number as bytes, the low one first
 unfoldable pub u16Bytes : ℕ → List ℕ
