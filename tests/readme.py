@@ -10,6 +10,9 @@ import subprocess
 import sys
 from pathlib import Path
 
+sys.dont_write_bytecode = True
+import stored
+
 ROOT = Path(__file__).resolve().parent.parent
 PAGES = ["README.md", "examples/README.md"]
 GATE = "bash .ci/run"
@@ -43,21 +46,14 @@ def judged(page, command, lines):
     return False
 
 
-def main():
-    passed = failed = 0
+def results():
     for page in PAGES:
         commands = [(c, lines) for c, lines in shown(page) if c != GATE]
         if not commands:
-            print(f"{page}: no command in it")
-            failed += 1
+            yield f'{page}: no command in it', False
         for command, lines in commands:
-            if judged(page, command, lines):
-                passed += 1
-            else:
-                failed += 1
-    print(f"{passed} passed, {failed} failed")
-    return 1 if failed else 0
+            yield f'{page}: $ {command}', judged(page, command, lines)
 
 
 if __name__ == "__main__":
-    sys.exit(main())
+    sys.exit(stored.told(list(results())))
