@@ -30,12 +30,6 @@ pub struct Wanted {
     pub at: usize,
 }
 
-fn wide(x: u8) -> usize
-    ensures { λ r. ⌜ r ≡ x ⌝ }
-{
-    x as usize
-}
-
 // how many numbers the derivation of a body has, none for no body
 fn body_count(counts: &[usize; 16], body: u8) -> usize
     requires { ⌜ ((body ≡ 255 → ⊥) → body < 16) ⌝ }
@@ -77,7 +71,7 @@ pub fn measure(
     while i < list.len() {
         keep(marks, k, i);
         let c = steps::clause_at(book, h, list, i);
-        let n = 1 + wide(c.variables);
+        let n = 1 + whole::wide(c.variables);
         let head = c.head as usize;
         counts[head] = body_count(&counts, c.body) + n;
         i = i + n + size;
@@ -141,7 +135,7 @@ fn step_back(
 {
     let c = steps::clause_at(book, h, list, i);
     if c.head == w.relation {
-        let n = 1 + wide(c.variables);
+        let n = 1 + whole::wide(c.variables);
         let at = write_step(list, i, n, w.at, room);
         return Wanted {
             relation: c.body,

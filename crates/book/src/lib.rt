@@ -320,12 +320,6 @@ pub fn constraint_of(book: &[u8], k: usize) -> &[u8]
     &book[a..b]
 }
 
-fn wide(x: u8) -> usize
-    ensures { λ r. ⌜ (r ≡ x) × (r < 256) ⌝ }
-{
-    x as usize
-}
-
 // the place past the arguments of the relation r, whose number stands at p; 255 has none
 fn past(book: &[u8], p: usize, r: u8) -> usize
     requires { ⌜ p < length (now book) ⌝ }
@@ -335,7 +329,7 @@ fn past(book: &[u8], p: usize, r: u8) -> usize
     if r == 255 {
         p + 1
     } else {
-        p + 1 + wide(book[r as usize])
+        p + 1 + whole::wide(book[r as usize])
     }
 }
 

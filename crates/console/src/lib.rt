@@ -5,12 +5,6 @@ use libc::STDOUT_FILENO;
 
 // ---- to standard output
 
-fn wide(b: u8) -> usize
-    ensures { λ r. ⌜ r < 256 ⌝ }
-{
-    b as usize
-}
-
 pub fn write(text: &[u8]) {
     io::write_all(STDOUT_FILENO, text);
 }
@@ -20,7 +14,7 @@ pub fn print(n: usize) {
 }
 
 pub fn print_answer(number: u8, place: usize) {
-    print(wide(number));
+    print(whole::wide(number));
     write(b" at ");
     print(place);
 }
@@ -30,7 +24,7 @@ fn summed(sum: usize, b: u8) -> usize
     requires { ⌜ sum < 65521 ⌝ }
     ensures { λ r. ⌜ r < 65521 ⌝ }
 {
-    (sum * 257 + wide(b)) % 65521
+    (sum * 257 + whole::wide(b)) % 65521
 }
 
 fn checksum(part: &[u8]) -> usize {
@@ -68,7 +62,7 @@ pub fn put_bytes(room: &mut [u8], n: usize)
 fn number(b: &[u8; 4]) -> usize
     ensures { λ r. ⌜ r < 4294967296 ⌝ }
 {
-    wide(b[0]) + wide(b[1]) * 256 + wide(b[2]) * 65536 + wide(b[3]) * 16777216
+    whole::u32_at(b, 0) as usize
 }
 
 // The next length. At the end of the input it is one that no room has.

@@ -59,12 +59,6 @@ pub fn refused_by(b: book::Reading) -> Answer
     }
 }
 
-fn wide(x: u8) -> usize
-    ensures { λ r. ⌜ r ≡ x ⌝ }
-{
-    x as usize
-}
-
 // ---- numbers of a list
 
 // The number at i as a clause's, or n if it is below zero.
@@ -142,7 +136,7 @@ fn spot(s: &[u8], list: &[i32], p: usize, a: Place) -> usize
     requires { ⌜ Sits (now s) (length (now list)) p a ⌝ }
     ensures { λ r. ⌜ (r ≡ a .from + getD (now (s .entry)) p 0) × (r < length (now (list .entry))) ⌝ }
 {
-    a.from + wide(s[p])
+    a.from + whole::wide(s[p])
 }
 
 fn argument_same(s: &[u8], list: &[i32], p: usize, a: Place, q: usize, b: Place) -> bool
@@ -232,10 +226,10 @@ pub fn judged_goal(book: &[u8], h: book::Header, relation: usize, values: &[i32]
     requires { ⌜ read (now book) ≡ Good h ⌝ }
     ensures { λ r. ⌜ r ≡ told (judgeGoal (bookIn (now (book .entry)) h) relation (now (values .entry))) ⌝ }
 {
-    if wide(h.relations) <= relation {
+    if whole::wide(h.relations) <= relation {
         return refuse(10, 0);
     }
-    if values.len() == wide(book[relation]) {
+    if values.len() == whole::wide(book[relation]) {
         Answer::Accepted
     } else {
         refuse(10, 0)
@@ -270,7 +264,7 @@ fn judged(
     ensures { λ r. ⌜ r ≡ told (judgeClause (bookIn (now (book .entry)) h) (clauseIn (take (h .start) (now (book .entry))) l) more (drop (i + 1) (now (list .entry))) i) ⌝ }
 {
     let from = i + 1;
-    let v = wide(l.variables);
+    let v = whole::wide(l.variables);
     if list.len() - from < v {
         return refuse(13, i);
     }

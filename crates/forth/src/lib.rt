@@ -16,12 +16,6 @@ ghost use Rattle.state.specs.State.{front, rowsOf, stateOf, Shape, Sized};
 ghost use Rattle.steps.specs.Put.{Put};
 ghost use Rattle.steps.specs.Walk.{Walk};
 
-fn wide(x: u8) -> usize
-    ensures { λ r. ⌜ r ≡ x ⌝ }
-{
-    x as usize
-}
-
 // How many steps the derivation has.
 pub fn count(book: &[u8], h: book::Header, list: &[i32]) -> usize
     requires { ⌜ Walk (now book) h (now list) 0 0 ⌝ }
@@ -66,7 +60,7 @@ fn write_places(book: &[u8], n: usize, rows: &[[i32; 8]; 16], room: &mut [i32], 
     let mut p = at;
     let mut r = 0;
     while r < n {
-        let many = wide(book[r]);
+        let many = whole::wide(book[r]);
         steps::copy(&rows[r], 0, many, room, p);
         p += many;
         r += 1;
@@ -86,7 +80,7 @@ fn write_state(
     requires { ⌜ at + stateSize (bookIn (now book) h) state.flags ≤ length (now room) ⌝ }
     ensures { λ _. ⌜ Put (now (room .entry)) (now (room .exit)) at (stateNumbers (bookIn (now (book .entry)) h) state.flags (stateOf (bookIn (now (book .entry)) h .arities) (now (flags .entry)) (now (rows .entry)))) ⌝ }
 {
-    let n = wide(h.relations);
+    let n = whole::wide(h.relations);
     write_flags(flags, n, room, at);
     write_places(book, n, rows, room, at + n);
 }
@@ -132,8 +126,8 @@ fn write_steps(book: &[u8], h: book::Header, list: &[i32], size: usize, room: &m
     let mut i = 0;
     while i < list.len() {
         let c = steps::clause_at(book, h, list, i);
-        let n = 1 + wide(c.variables);
-        let r = wide(c.head);
+        let n = 1 + whole::wide(c.variables);
+        let r = whole::wide(c.head);
         flags[r] = true;
         rows[r] = state::row_of(book, h, list, facts::head_of(c, i + 1));
         write_move(book, h, list, i, n, &flags, &rows, room, at);

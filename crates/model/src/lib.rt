@@ -36,12 +36,6 @@ fn simply(number: u8, place: usize, examined: usize) -> Reply
     }
 }
 
-fn wide(x: u8) -> usize
-    ensures { λ r. ⌜ r ≡ x ⌝ }
-{
-    x as usize
-}
-
 // each assignment of clause k in order, where `before` assignments were examined before them
 fn try_clause(
     book: &[u8],
@@ -59,7 +53,7 @@ fn try_clause(
     let start = h.start;
     let front = &book[..start];
     let l = t.clause;
-    let n = wide(l.variables);
+    let n = whole::wide(l.variables);
     let mut left = odometer::count_of(h, l.variables);
     let mut values = odometer::first_of(h, n);
     let mut seen = before;
@@ -107,7 +101,7 @@ fn weigh(book: &[u8], h: book::Header, model: &[u8], starts: [usize; 16]) -> Rep
     requires { ⌜ Started (now model) (take (h .relations) (now book)) starts ⌝ }
     ensures { λ r. ⌜ told r ≡ weighedAnswer (now (book .entry)) h (now (model .entry)) ⌝ }
 {
-    let q = wide(h.query);
+    let q = whole::wide(h.query);
     let at = starts[q];
     let none = [0i32; 16];
     if truth::truth(model, at, 0, &none, 0) {

@@ -99,12 +99,6 @@ fn ended(c: cursor::Cursor, model: &[u8]) -> cursor::Step
 
 // ---- one assignment
 
-fn wide(x: u8) -> usize
-    ensures { λ r. ⌜ (r ≡ x) × (r < 256) ⌝ }
-{
-    x as usize
-}
-
 // the values of n arguments that stand after the seat
 fn gather(s: &[u8], seat: usize, n: u8, values: &[i32]) -> [i32; 8]
     requires { ⌜ (n ≤ 8) × Arguments (now s) (length (now values)) (seat + 1) n ⌝ }
@@ -113,7 +107,7 @@ fn gather(s: &[u8], seat: usize, n: u8, values: &[i32]) -> [i32; 8]
     let mut places = [0i32; 8];
     let mut k = 0;
     while k < n as usize {
-        let i = wide(s[seat + 1 + k]);
+        let i = whole::wide(s[seat + 1 + k]);
         let v = values[i];
         places[k] = v;
         k += 1;
@@ -168,7 +162,7 @@ pub fn breaks_at(s: &[u8], t: Task, values: &[i32], model: &[u8]) -> bool
 fn half_of(book: &[u8], r: u8, starts: [usize; 16]) -> Half
     ensures { λ x. ⌜ x ≡ halfOf (now (book .entry)) starts r ⌝ }
 {
-    let i = wide(r);
+    let i = whole::wide(r);
     if i < 16 {
         if i < book.len() {
             return Half {

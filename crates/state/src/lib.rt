@@ -17,12 +17,6 @@ ghost use Rattle.book.specs.declared.Reading.the-variants.{Good};
 ghost use Rattle.facts.specs.Place.{factIn, valuesIn, Fixed, Sits};
 ghost use Rattle.state.specs.State.{front, rowsOf, stateOf, factOf, Shape, Sized, Known};
 
-fn wide(x: u8) -> usize
-    ensures { λ r. ⌜ r ≡ x ⌝ }
-{
-    x as usize
-}
-
 // ---- comparing with a list
 
 // whether the number at i is the flag's
@@ -86,7 +80,7 @@ fn argument(s: &[u8], list: &[i32], p: usize, a: facts::Place) -> i32
     requires { ⌜ Sits (now s) (length (now list)) p a ⌝ }
     ensures { λ r. ⌜ r ≡ getD (now (list .entry)) (a .from + getD (now (s .entry)) p 0) (pos 0) ⌝ }
 {
-    let i = a.from + wide(s[p]);
+    let i = a.from + whole::wide(s[p]);
     list[i]
 }
 
@@ -113,9 +107,9 @@ pub fn row_of(book: &[u8], h: book::Header, list: &[i32], a: facts::Place) -> [i
     requires { ⌜ (a .relation ≡ 255 → ⊥) ⌝ }
     ensures { λ r. ⌜ factIn (take (h .start) (now (book .entry))) (now (list .entry)) a ≡ some (factOf (now (book .entry)) (a .relation) r) ⌝ }
 {
-    let r = wide(a.relation);
+    let r = whole::wide(a.relation);
     let start = h.start;
-    values_row(&book[..start], list, a, wide(book[r]))
+    values_row(&book[..start], list, a, whole::wide(book[r]))
 }
 
 // ---- states
@@ -125,11 +119,11 @@ pub fn size(book: &[u8], h: book::Header) -> usize
     requires { ⌜ read (now book) ≡ Good h ⌝ }
     ensures { λ r. ⌜ Sized (bookIn (now (book .entry)) h) r ⌝ }
 {
-    let n = wide(h.relations);
+    let n = whole::wide(h.relations);
     let mut total = n;
     let mut r = 0;
     while r < n {
-        total += wide(book[r]);
+        total += whole::wide(book[r]);
         r += 1;
     }
     total
@@ -141,12 +135,12 @@ pub fn first_places(book: &[u8], h: book::Header, list: &[i32]) -> [[i32; 8]; 16
     requires { ⌜ stateSize (bookIn (now book) h) state.flags ≤ length (now list) ⌝ }
     ensures { λ r. ⌜ stateOf (bookIn (now (book .entry)) h .arities) (replicate 16 false) r ≡ firstOf (bookIn (now (book .entry)) h) state.flags (now (list .entry)) ⌝ }
 {
-    let n = wide(h.relations);
+    let n = whole::wide(h.relations);
     let mut rows = [[0i32; 8]; 16];
     let mut at = n;
     let mut r = 0;
     while r < n {
-        let many = wide(book[r]);
+        let many = whole::wide(book[r]);
         rows[r] = row_at(list, at, many);
         at += many;
         r += 1;
@@ -163,7 +157,7 @@ fn places_differ(book: &[u8], n: usize, rows: &[[i32; 8]; 16], list: &[i32], at:
     let mut p = at;
     let mut r = 0;
     while r < n {
-        let many = wide(book[r]);
+        let many = whole::wide(book[r]);
         let d = row_differs(list, p, &rows[r], many);
         if d < p + many {
             return d;
@@ -187,7 +181,7 @@ pub fn differs(
     requires { ⌜ at + stateSize (bookIn (now book) h) state.flags ≤ length (now list) ⌝ }
     ensures { λ r. ⌜ r ≡ firstDiff at (drop at (now (list .entry))) (stateNumbers (bookIn (now (book .entry)) h) state.flags (stateOf (bookIn (now (book .entry)) h .arities) (now (flags .entry)) (now (rows .entry)))) ⌝ }
 {
-    let n = wide(h.relations);
+    let n = whole::wide(h.relations);
     let d = flags_differ(list, at, flags, n);
     if d < at + n {
         return d;
@@ -231,8 +225,8 @@ pub fn meets(
     if a.relation == 255 {
         return true;
     }
-    let r = wide(a.relation);
-    let n = wide(book[r]);
+    let r = whole::wide(a.relation);
+    let n = whole::wide(book[r]);
     let row = row_of(book, h, list, a);
     holds(book, h, flags, rows, r, &row[..n])
 }

@@ -20,19 +20,13 @@ pub fn clause_at(book: &[u8], h: book::Header, list: &[i32], i: usize) -> cursor
     book::record(book, h, facts::number_at(list, i, h.count))
 }
 
-fn wide(x: u8) -> usize
-    ensures { λ r. ⌜ r ≡ x ⌝ }
-{
-    x as usize
-}
-
 // The place after the step that begins at i and the z numbers after it.
 pub fn after(book: &[u8], h: book::Header, list: &[i32], z: usize, i: usize) -> usize
     requires { ⌜ Here (now book) h (now list) z i ⌝ }
     ensures { λ r. ⌜ r ≡ afterStep (bookIn (now (book .entry)) h) z (now (list .entry)) i ⌝ }
 {
     let c = clause_at(book, h, list, i);
-    i + 1 + wide(c.variables) + z
+    i + 1 + whole::wide(c.variables) + z
 }
 
 // Copies n numbers of the list from `from` on into the room from `at` on.

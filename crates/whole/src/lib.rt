@@ -1,10 +1,17 @@
-// Little-endian numbers of two and of four bytes, out of a slice.
+// Numbers out of bytes: of one, and little-endian of two and of four.
 ghost use mathlib.Core.Path.{_≡_};
 ghost use Prim.Native.Nat.{_+_, _*_, _<_, _≤_};
 ghost use lib.ListN.{length};
 ghost use mir.Syntax.{w16, w32};
 ghost use Rattle.whole.specs.Whole.{Sized, Signed, twosOf};
 ghost use Rattle.whole.specs.Bytes.{u16At, u32At, i16At, i32At};
+
+// A byte as a count or a place.
+pub fn wide(x: u8) -> usize
+    ensures { λ r. ⌜ (r ≡ x) × (r < 256) ⌝ }
+{
+    x as usize
+}
 
 // Two digits of base 256.
 fn pair(low: u8, high: u8) -> u16

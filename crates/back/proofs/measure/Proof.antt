@@ -34,7 +34,7 @@ body-count-requires c κs = body-small _ _ _ _ (c .before .before .before .claus
 add-counts : tie.Need-add-counts Inv-loop μ-loop
 add-counts c =
     let a = c .before .before .before .before .before .before .before .before .before .before .args in
-    omega (arith, counted-small (a .book .now) (a .h) (a .list .now) (a .size) (c .before .before .before .before .before .before .before .before .before .before .pre .0) (c .before .before .before .before .before .before .before .before .loop .inv .0) (c .before .before .before .before .before .before .before .loop-test .taken) (c .before .before .before .before .clause-at .result) (c .before .before .before .before .clause-at .ensures), c .body-count .ensures, c .before .before .before .wide .ensures, c .before .before .before .before .clause-at .ensures .sound .few, c .before .before .before .before .before .before .before .loop-test .taken)
+    omega (arith, counted-small (a .book .now) (a .h) (a .list .now) (a .size) (c .before .before .before .before .before .before .before .before .before .before .pre .0) (c .before .before .before .before .before .before .before .before .loop .inv .0) (c .before .before .before .before .before .before .before .loop-test .taken) (c .before .before .before .before .clause-at .result) (c .before .before .before .before .clause-at .ensures), c .body-count .ensures, c .before .before .before .wide .ensures .0, c .before .before .before .before .clause-at .ensures .sound .few, c .before .before .before .before .before .before .before .loop-test .taken)
 
 array-write-counts : tie.Need-array-write-counts Inv-loop μ-loop
 array-write-counts c = head-small _ _ _ _ (c .before .before .before .before .clause-at .ensures) (c .before .before .before .before .before .before .before .before .before .before .pre .0 .walk .good)
@@ -43,13 +43,13 @@ add-i : tie.Need-add-i Inv-loop μ-loop
 add-i c =
     let a = c .before .before .before .before .before .before .before .before .before .before .args in
     let w = counted-here (a .book .now) (a .h) (a .list .now) (a .size) (c .before .before .before .before .before .before .before .before .before .before .pre .0) (c .before .before .before .before .before .before .before .before .loop .inv .0) (c .before .before .before .before .before .before .before .loop-test .taken) in
-    omega (arith, w .whole, vars-of _ _ _ _ (c .before .before .before .before .clause-at .ensures), c .before .before .before .wide .ensures)
+    omega (arith, w .whole, vars-of _ _ _ _ (c .before .before .before .before .clause-at .ensures), c .before .before .before .wide .ensures .0)
 
 add-i-2 : tie.Need-add-i-2 Inv-loop μ-loop
 add-i-2 c =
     let a = c .before .before .before .before .before .before .before .before .before .before .args in
     let w = counted-here (a .book .now) (a .h) (a .list .now) (a .size) (c .before .before .before .before .before .before .before .before .before .before .pre .0) (c .before .before .before .before .before .before .before .before .loop .inv .0) (c .before .before .before .before .before .before .before .loop-test .taken) in
-    omega (arith, w .whole, vars-of _ _ _ _ (c .before .before .before .before .clause-at .ensures), c .before .before .before .wide .ensures)
+    omega (arith, w .whole, vars-of _ _ _ _ (c .before .before .before .before .clause-at .ensures), c .before .before .before .wide .ensures .0)
 
 add-k : tie.Need-add-k Inv-loop μ-loop
 add-k c = omega (arith, c .before .before .before .before .before .before .before .before .loop .inv .1 .few)
@@ -62,7 +62,7 @@ loop-again c =
     let a = c .before .before .before .before .before .before .before .before .before .before .args in
     let (counted, marking) = c .before .before .before .before .before .before .before .before .loop .inv in
     let inside = c .before .before .before .before .before .before .before .loop-test .taken in (
-      rw (c .before .before .before .wide .ensures) (counted-more (a .book .now) (a .h) (a .list .now) (a .size) (c .before .before .before .before .before .before .before .before .before .before .pre .0) counted inside (c .before .before .before .before .clause-at .result) (c .before .before .before .before .clause-at .ensures) (rw (c .body-count .ensures))),
+      rw (c .before .before .before .wide .ensures .0) (counted-more (a .book .now) (a .h) (a .list .now) (a .size) (c .before .before .before .before .before .before .before .before .before .before .pre .0) counted inside (c .before .before .before .before .clause-at .result) (c .before .before .before .before .clause-at .ensures) (rw (c .body-count .ensures))),
       marking-more (a .book .now) (a .h) (a .list .now) (a .size) (c .before .before .before .before .before .before .before .before .before .before .pre .0) counted marking inside (c .before .before .before .before .before .keep .ensures),
     )
 

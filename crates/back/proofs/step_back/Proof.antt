@@ -8,13 +8,13 @@ write-step-requires : tie.Need-write-step-requires
 write-step-requires c κs =
     let a = c .before .before .before .before .before .before .before .args in
     step-fits (a .book .now) (a .h) (a .list .now) (a .i) (c .before .before .before .before .before .clause-at .result) (c .before .before .before .before .before .clause-at .ensures) (a .w) (a .room .now) (a .size) _ (c .before .before .before .before .before .before .before .pre .0) (c .before .before .before .before .before .before .before .pre .1)
-    (c .before .before .if1 .taken) (rw (c .before .wide .ensures))
+    (c .before .before .if1 .taken) (rw (c .before .wide .ensures .0))
 
 returns : tie.Need-returns
 returns c =
     let a = c .before .before .before .before .before .before .before .before .before .args in
     stepped-wrote (a .book .now) (a .h) (a .list .now) (a .i) (c .before .before .before .before .before .before .before .clause-at .result) (c .before .before .before .before .before .before .before .clause-at .ensures) (a .w) (a .room .now)
-    (c .before .write-step .result) (1 + c .before .before .before .wide .result) _ (c .before .before .before .before .if1 .taken) (rw (c .before .before .before .wide .ensures)) (c .before .write-step .ensures)
+    (c .before .write-step .result) (1 + c .before .before .before .wide .result) _ (c .before .before .before .before .if1 .taken) (rw (c .before .before .before .wide .ensures .0)) (c .before .write-step .ensures)
 
 returns-2 : tie.Need-returns-2
 returns-2 c =

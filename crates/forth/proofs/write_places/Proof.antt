@@ -24,14 +24,14 @@ copy-requires c κs =
     let t = c .before .before .before .before .before .before .loop in
     let k = c .before .before .before .before .before .loop-test .taken in
     let w = c .before .before .before .before .before .before .before .before .pre .0 in
-    (omega (arith, w .small (t .r) k, c .before .before .before .wide .ensures), omega (arith, t .inv .1, t .inv .0 .fits, sum-more (a .book .now) (a .n) (t .r) k (w .there), c .before .before .before .wide .ensures))
+    (omega (arith, w .small (t .r) k, c .before .before .before .wide .ensures .0), omega (arith, t .inv .1, t .inv .0 .fits, sum-more (a .book .now) (a .n) (t .r) k (w .there), c .before .before .before .wide .ensures .0))
 
 add-p : tie.Need-add-p Inv-loop μ-loop
 add-p c =
     let a = c .before .before .before .before .before .before .before .before .before .before .args in
     let t = c .before .before .before .before .before .before .before .before .loop in
     let k = c .before .before .before .before .before .before .before .loop-test .taken in
-    record { fits = omega (arith, t .inv .0 .fits, sum-more (a .book .now) (a .n) (t .r) k (c .before .before .before .before .before .before .before .before .before .before .pre .0 .there), c .before .before .before .before .before .wide .ensures) }
+    record { fits = omega (arith, t .inv .0 .fits, sum-more (a .book .now) (a .n) (t .r) k (c .before .before .before .before .before .before .before .before .before .before .pre .0 .there), c .before .before .before .before .before .wide .ensures .0) }
 
 loop-again : tie.Need-loop-again Inv-loop μ-loop
 loop-again c =
@@ -39,7 +39,7 @@ loop-again c =
     let t = c .before .before .before .before .before .before .before .before .loop in
     let w = c .before .before .before .before .before .before .before .before .before .before .pre .0 in
     let k = c .before .before .before .before .before .before .before .loop-test .taken in (
-      placing-more (a .book .now) (a .n) (a .rows .now) (a .room .now) (a .at) w (t .inv .0) k (c .before .before .before .before .before .wide .ensures) (omega (arith, w .small (t .r) k, c .before .before .before .before .before .wide .ensures)) (c .before .copy .ensures),
+      placing-more (a .book .now) (a .n) (a .rows .now) (a .room .now) (a .at) w (t .inv .0) k (c .before .before .before .before .before .wide .ensures .0) (omega (arith, w .small (t .r) k, c .before .before .before .before .before .wide .ensures .0)) (c .before .copy .ensures),
       put-length (c .before .copy .ensures) ∙ t .inv .1,
     )
 

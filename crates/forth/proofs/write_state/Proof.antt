@@ -11,13 +11,13 @@ use Rattle.forth.proofs.write_state.Tie as tie
 write-flags-requires : tie.Need-write-flags-requires
 write-flags-requires c κs =
     let a = c .before .before .before .args in
-    let n = c .before .wide .ensures in
+    let n = c .before .wide .ensures .0 in
     (omega (arith, n, shape-read (a .book .now) (a .h) (c .before .before .before .pre .0) .few), omega (arith, n, size-is (a .book .now) (a .h) (c .before .before .before .pre .0), c .before .before .before .pre .1))
 
 write-places-requires : tie.Need-write-places-requires
 write-places-requires c κs =
     let a = c .before .before .before .before .before .before .args in
-    let n = c .before .before .before .before .wide .ensures in
+    let n = c .before .before .before .before .wide .ensures .0 in
     (rw n (shape-read (a .book .now) (a .h) (c .before .before .before .before .before .before .pre .0)), rw n (omega (arith, size-is (a .book .now) (a .h) (c .before .before .before .before .before .before .pre .0), c .before .before .before .before .before .before .pre .1, put-length (c .before .before .write-flags .ensures))))
 
 returns : tie.Need-returns
@@ -25,7 +25,7 @@ returns c =
     let a = c .before .before .before .before .before .before .before .before .args in
     let n = c .before .before .before .before .before .before .wide in
     put-as (put-then (n .result) (bits-length (n .result) (a .flags .now)) (c .before .before .before .before .write-flags .ensures) (c .before .write-places .ensures))
-    (sym (numbers-are (a .book .now) (a .h) (a .flags .now) (a .rows .now) (n .result) (c .before .before .before .before .before .before .before .before .pre .0) (n .ensures)))
+    (sym (numbers-are (a .book .now) (a .h) (a .flags .now) (a .rows .now) (n .result) (c .before .before .before .before .before .before .before .before .pre .0) (n .ensures .0)))
 
 pub write-state-spec : {M : Type 1} → statement M
 write-state-spec =

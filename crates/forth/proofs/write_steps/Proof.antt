@@ -33,40 +33,40 @@ clause-at-requires c κs =
     (w .good, (w .inside, w .there))
 
 array-write-flags : tie.Need-array-write-flags Inv-loop μ-loop
-array-write-flags c = omega (arith, c .wide2 .ensures, head-small _ _ _ _ (c .before .before .clause-at .ensures) (c .before .before .before .before .before .before .before .pre .0 .good))
+array-write-flags c = omega (arith, c .wide2 .ensures .0, head-small _ _ _ _ (c .before .before .clause-at .ensures) (c .before .before .before .before .before .before .before .pre .0 .good))
 
 row-of-requires : tie.Need-row-of-requires Inv-loop μ-loop
 row-of-requires c κs =
     let a = c .before .before .before .before .before .before .before .before .args in
-    row-asks (a .book .now) (a .h) (a .list .now) (a .size) _ (traceDue (bookIn (a .book .now) (a .h)) state.flags (a .list .now) 0 (state.first (bookIn (a .book .now) (a .h)) state.flags)) (c .before .before .before .before .before .before .before .before .pre .0) (c .before .before .before .before .before .before .before .before .pre .1 .0) (c .before .before .before .before .before .before .before .before .pre .1 .1) (c .before .before .before .before .before .loop .inv) (c .before .before .before .before .loop-test .taken) (c .before .before .before .clause-at .ensures) (c .before .wide2 .ensures) (c .before .before .wide .ensures) (c .head-of .ensures)
+    row-asks (a .book .now) (a .h) (a .list .now) (a .size) _ (traceDue (bookIn (a .book .now) (a .h)) state.flags (a .list .now) 0 (state.first (bookIn (a .book .now) (a .h)) state.flags)) (c .before .before .before .before .before .before .before .before .pre .0) (c .before .before .before .before .before .before .before .before .pre .1 .0) (c .before .before .before .before .before .before .before .before .pre .1 .1) (c .before .before .before .before .before .loop .inv) (c .before .before .before .before .loop-test .taken) (c .before .before .before .clause-at .ensures) (c .before .wide2 .ensures .0) (c .before .before .wide .ensures .0) (c .head-of .ensures)
 
 array-set-from-rows : tie.Need-array-set-from-rows Inv-loop μ-loop
-array-set-from-rows c = omega (arith, c .before .before .wide2 .ensures, head-small _ _ _ _ (c .before .before .before .before .clause-at .ensures) (c .before .before .before .before .before .before .before .before .before .pre .0 .good))
+array-set-from-rows c = omega (arith, c .before .before .wide2 .ensures .0, head-small _ _ _ _ (c .before .before .before .before .clause-at .ensures) (c .before .before .before .before .before .before .before .before .before .pre .0 .good))
 
 write-move-requires : tie.Need-write-move-requires Inv-loop μ-loop
 write-move-requires c κs =
     let a = c .before .before .before .before .before .before .before .before .before .before .before .before .args in
-    move-asks (a .book .now) (a .h) (a .list .now) (a .size) _ (traceDue (bookIn (a .book .now) (a .h)) state.flags (a .list .now) 0 (state.first (bookIn (a .book .now) (a .h)) state.flags)) (c .before .before .before .before .before .before .before .before .before .before .before .before .pre .0) (c .before .before .before .before .before .before .before .before .before .before .before .before .pre .1 .0) (c .before .before .before .before .before .before .before .before .before .before .before .before .pre .1 .1) (c .before .before .before .before .before .before .before .before .before .loop .inv) (c .before .before .before .before .before .before .before .before .loop-test .taken) (c .before .before .before .before .before .before .before .clause-at .ensures) (c .before .before .before .before .before .wide2 .ensures) (c .before .before .before .before .before .before .wide .ensures) (c .before .before .before .before .head-of .ensures)
+    move-asks (a .book .now) (a .h) (a .list .now) (a .size) _ (traceDue (bookIn (a .book .now) (a .h)) state.flags (a .list .now) 0 (state.first (bookIn (a .book .now) (a .h)) state.flags)) (c .before .before .before .before .before .before .before .before .before .before .before .before .pre .0) (c .before .before .before .before .before .before .before .before .before .before .before .before .pre .1 .0) (c .before .before .before .before .before .before .before .before .before .before .before .before .pre .1 .1) (c .before .before .before .before .before .before .before .before .before .loop .inv) (c .before .before .before .before .before .before .before .before .loop-test .taken) (c .before .before .before .before .before .before .before .clause-at .ensures) (c .before .before .before .before .before .wide2 .ensures .0) (c .before .before .before .before .before .before .wide .ensures .0) (c .before .before .before .before .head-of .ensures)
     (c .before .before .before .row-of .result) (c .before .before .before .row-of .ensures)
 
 add-at : tie.Need-add-at Inv-loop μ-loop
 add-at c =
     let a = c .before .before .before .before .before .before .before .before .before .before .before .before .before .before .args in
-    let w = move-asks (a .book .now) (a .h) (a .list .now) (a .size) _ (traceDue (bookIn (a .book .now) (a .h)) state.flags (a .list .now) 0 (state.first (bookIn (a .book .now) (a .h)) state.flags)) (c .before .before .before .before .before .before .before .before .before .before .before .before .before .before .pre .0) (c .before .before .before .before .before .before .before .before .before .before .before .before .before .before .pre .1 .0) (c .before .before .before .before .before .before .before .before .before .before .before .before .before .before .pre .1 .1) (c .before .before .before .before .before .before .before .before .before .before .before .loop .inv) (c .before .before .before .before .before .before .before .before .before .before .loop-test .taken) (c .before .before .before .before .before .before .before .before .before .clause-at .ensures) (c .before .before .before .before .before .before .before .wide2 .ensures) (c .before .before .before .before .before .before .before .before .wide .ensures) (c .before .before .before .before .before .before .head-of .ensures)
+    let w = move-asks (a .book .now) (a .h) (a .list .now) (a .size) _ (traceDue (bookIn (a .book .now) (a .h)) state.flags (a .list .now) 0 (state.first (bookIn (a .book .now) (a .h)) state.flags)) (c .before .before .before .before .before .before .before .before .before .before .before .before .before .before .pre .0) (c .before .before .before .before .before .before .before .before .before .before .before .before .before .before .pre .1 .0) (c .before .before .before .before .before .before .before .before .before .before .before .before .before .before .pre .1 .1) (c .before .before .before .before .before .before .before .before .before .before .before .loop .inv) (c .before .before .before .before .before .before .before .before .before .before .loop-test .taken) (c .before .before .before .before .before .before .before .before .before .clause-at .ensures) (c .before .before .before .before .before .before .before .wide2 .ensures .0) (c .before .before .before .before .before .before .before .before .wide .ensures .0) (c .before .before .before .before .before .before .head-of .ensures)
     (c .before .before .before .before .before .row-of .result) (c .before .before .before .before .before .row-of .ensures) in
     record { fits = omega (arith, w .1 .1, c .before .before .before .before .before .before .before .before .before .before .before .before .before .before .pre .1 .0 .is, put-length (c .before .before .before .before .before .before .before .before .before .before .before .loop .inv .put), c .before .before .before .before .before .before .before .before .before .before .before .before .before .before .good .1 .1 .1 .1 .0 .0) }
 
 add-at-2 : tie.Need-add-at-2 Inv-loop μ-loop
 add-at-2 c =
     let a = c .before .before .before .before .before .before .before .before .before .before .before .before .before .before .args in
-    let w = move-asks (a .book .now) (a .h) (a .list .now) (a .size) _ (traceDue (bookIn (a .book .now) (a .h)) state.flags (a .list .now) 0 (state.first (bookIn (a .book .now) (a .h)) state.flags)) (c .before .before .before .before .before .before .before .before .before .before .before .before .before .before .pre .0) (c .before .before .before .before .before .before .before .before .before .before .before .before .before .before .pre .1 .0) (c .before .before .before .before .before .before .before .before .before .before .before .before .before .before .pre .1 .1) (c .before .before .before .before .before .before .before .before .before .before .before .loop .inv) (c .before .before .before .before .before .before .before .before .before .before .loop-test .taken) (c .before .before .before .before .before .before .before .before .before .clause-at .ensures) (c .before .before .before .before .before .before .before .wide2 .ensures) (c .before .before .before .before .before .before .before .before .wide .ensures) (c .before .before .before .before .before .before .head-of .ensures)
+    let w = move-asks (a .book .now) (a .h) (a .list .now) (a .size) _ (traceDue (bookIn (a .book .now) (a .h)) state.flags (a .list .now) 0 (state.first (bookIn (a .book .now) (a .h)) state.flags)) (c .before .before .before .before .before .before .before .before .before .before .before .before .before .before .pre .0) (c .before .before .before .before .before .before .before .before .before .before .before .before .before .before .pre .1 .0) (c .before .before .before .before .before .before .before .before .before .before .before .before .before .before .pre .1 .1) (c .before .before .before .before .before .before .before .before .before .before .before .loop .inv) (c .before .before .before .before .before .before .before .before .before .before .loop-test .taken) (c .before .before .before .before .before .before .before .before .before .clause-at .ensures) (c .before .before .before .before .before .before .before .wide2 .ensures .0) (c .before .before .before .before .before .before .before .before .wide .ensures .0) (c .before .before .before .before .before .before .head-of .ensures)
     (c .before .before .before .before .before .row-of .result) (c .before .before .before .before .before .row-of .ensures) in
     record { fits = omega (arith, w .1 .1, c .before .before .before .before .before .before .before .before .before .before .before .before .before .before .pre .1 .0 .is, put-length (c .before .before .before .before .before .before .before .before .before .before .before .loop .inv .put), c .before .before .before .before .before .before .before .before .before .before .before .before .before .before .good .1 .1 .1 .1 .0 .0) }
 
 add-i : tie.Need-add-i Inv-loop μ-loop
 add-i c =
     let a = c .before .before .before .before .before .before .before .before .before .before .before .before .before .before .args in
-    let w = move-asks (a .book .now) (a .h) (a .list .now) (a .size) _ (traceDue (bookIn (a .book .now) (a .h)) state.flags (a .list .now) 0 (state.first (bookIn (a .book .now) (a .h)) state.flags)) (c .before .before .before .before .before .before .before .before .before .before .before .before .before .before .pre .0) (c .before .before .before .before .before .before .before .before .before .before .before .before .before .before .pre .1 .0) (c .before .before .before .before .before .before .before .before .before .before .before .before .before .before .pre .1 .1) (c .before .before .before .before .before .before .before .before .before .before .before .loop .inv) (c .before .before .before .before .before .before .before .before .before .before .loop-test .taken) (c .before .before .before .before .before .before .before .before .before .clause-at .ensures) (c .before .before .before .before .before .before .before .wide2 .ensures) (c .before .before .before .before .before .before .before .before .wide .ensures) (c .before .before .before .before .before .before .head-of .ensures)
+    let w = move-asks (a .book .now) (a .h) (a .list .now) (a .size) _ (traceDue (bookIn (a .book .now) (a .h)) state.flags (a .list .now) 0 (state.first (bookIn (a .book .now) (a .h)) state.flags)) (c .before .before .before .before .before .before .before .before .before .before .before .before .before .before .pre .0) (c .before .before .before .before .before .before .before .before .before .before .before .before .before .before .pre .1 .0) (c .before .before .before .before .before .before .before .before .before .before .before .before .before .before .pre .1 .1) (c .before .before .before .before .before .before .before .before .before .before .before .loop .inv) (c .before .before .before .before .before .before .before .before .before .before .loop-test .taken) (c .before .before .before .before .before .before .before .before .before .clause-at .ensures) (c .before .before .before .before .before .before .before .wide2 .ensures .0) (c .before .before .before .before .before .before .before .before .wide .ensures .0) (c .before .before .before .before .before .before .head-of .ensures)
     (c .before .before .before .before .before .row-of .result) (c .before .before .before .before .before .row-of .ensures) in
     record { fits = omega (arith, w .1 .0, c .before .before .before .before .before .before .before .before .before .before .before .before .before .before .good .1 .1 .0 .0) }
 
@@ -76,7 +76,7 @@ loop-less c = omega (arith, c .before .before .before .before .before .before .b
 loop-again : tie.Need-loop-again Inv-loop μ-loop
 loop-again c =
     let a = c .before .before .before .before .before .before .before .before .before .before .before .before .before .before .args in
-    move-more (a .book .now) (a .h) (a .list .now) (a .size) _ (traceDue (bookIn (a .book .now) (a .h)) state.flags (a .list .now) 0 (state.first (bookIn (a .book .now) (a .h)) state.flags)) (c .before .before .before .before .before .before .before .before .before .before .before .before .before .before .pre .0) (c .before .before .before .before .before .before .before .before .before .before .before .before .before .before .pre .1 .0) (c .before .before .before .before .before .before .before .before .before .before .before .before .before .before .pre .1 .1) (c .before .before .before .before .before .before .before .before .before .before .before .loop .inv) (c .before .before .before .before .before .before .before .before .before .before .loop-test .taken) (c .before .before .before .before .before .before .before .before .before .clause-at .ensures) (c .before .before .before .before .before .before .before .wide2 .ensures) (c .before .before .before .before .before .before .before .before .wide .ensures) (c .before .before .before .before .before .before .head-of .ensures)
+    move-more (a .book .now) (a .h) (a .list .now) (a .size) _ (traceDue (bookIn (a .book .now) (a .h)) state.flags (a .list .now) 0 (state.first (bookIn (a .book .now) (a .h)) state.flags)) (c .before .before .before .before .before .before .before .before .before .before .before .before .before .before .pre .0) (c .before .before .before .before .before .before .before .before .before .before .before .before .before .before .pre .1 .0) (c .before .before .before .before .before .before .before .before .before .before .before .before .before .before .pre .1 .1) (c .before .before .before .before .before .before .before .before .before .before .before .loop .inv) (c .before .before .before .before .before .before .before .before .before .before .loop-test .taken) (c .before .before .before .before .before .before .before .before .before .clause-at .ensures) (c .before .before .before .before .before .before .before .wide2 .ensures .0) (c .before .before .before .before .before .before .before .before .wide .ensures .0) (c .before .before .before .before .before .before .head-of .ensures)
     (c .before .before .before .before .before .row-of .result) (c .before .before .before .before .before .row-of .ensures) (c .before .write-move .ensures)
 
 same-length : tie.Need-same-length Inv-loop μ-loop

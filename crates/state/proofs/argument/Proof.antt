@@ -11,7 +11,7 @@ use Rattle.state.proofs.argument.Tie as tie
 returns : tie.Need-returns
 returns c =
     let a = c .before .before .before .before .before .args in
-    own w32 _ (c .result .given) ∙ ap (λ (m : ℕ). getD (a .list .now) (a .a .from + m) (pos 0)) (c .before .before .wide .ensures)
+    own w32 _ (c .result .given) ∙ ap (λ (m : ℕ). getD (a .list .now) (a .a .from + m) (pos 0)) (c .before .before .wide .ensures .0)
 
 pub argument-spec : {M : Type 1} → statement M
 argument-spec =

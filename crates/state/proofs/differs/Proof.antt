@@ -19,7 +19,7 @@ returns c =
     let a = c .before .before .before .before .args in
     let p = c .before .before .before .before .pre in
     let n = c .before .before .wide in
-    rw (numbers-are (a .book .now) (a .h) (a .flags .now) (a .rows .now) (n .result) (p .0) (n .ensures))
+    rw (numbers-are (a .book .now) (a .h) (a .flags .now) (a .rows .now) (n .result) (p .0) (n .ensures .0))
     (parts-stop (a .list .now) (a .at) _ _ (n .result) (c .before .flags-differ .ensures) (bits-length (n .result) (a .flags .now))
     (omega (arith, size-is (a .book .now) (a .h) (p .0))) (c .if1 .taken) refl)
 
@@ -27,7 +27,7 @@ places-differ-requires : tie.Need-places-differ-requires
 places-differ-requires c κs =
     let a = c .before .before .before .before .args in
     let p = c .before .before .before .before .pre in
-    let n = c .before .before .wide .ensures in
+    let n = c .before .before .wide .ensures .0 in
     (rw n (shape-read (a .book .now) (a .h) (p .0)), rw n (omega (arith, size-is (a .book .now) (a .h) (p .0))))
 
 returns-2 : tie.Need-returns-2
@@ -35,7 +35,7 @@ returns-2 c =
     let a = c .before .before .before .before .before .args in
     let p = c .before .before .before .before .before .pre in
     let n = c .before .before .before .wide in
-    rw (numbers-are (a .book .now) (a .h) (a .flags .now) (a .rows .now) (n .result) (p .0) (n .ensures))
+    rw (numbers-are (a .book .now) (a .h) (a .flags .now) (a .rows .now) (n .result) (p .0) (n .ensures .0))
     (parts-on (a .list .now) (a .at) _ _ (n .result) (c .before .before .flags-differ .ensures) (bits-length (n .result) (a .flags .now))
     (omega (arith, size-is (a .book .now) (a .h) (p .0))) (c .before .if1 .left) (c .places-differ .ensures))
 

@@ -24,10 +24,10 @@ unfolding rowsOf
 loop-holds c =
     let a = c .before .before .args in
     let p = c .before .before .pre in (
-      rw (c .wide .ensures) (shape-read (a .book .now) (a .h) (p .0)),
+      rw (c .wide .ensures .0) (shape-read (a .book .now) (a .h) (p .0)),
       refl,
       omega arith,
-      rw (c .wide .ensures) (omega (arith, size-is (a .book .now) (a .h) (p .0))),
+      rw (c .wide .ensures .0) (omega (arith, size-is (a .book .now) (a .h) (p .0))),
       refl,
     )
 
@@ -39,7 +39,7 @@ row-at-requires c κs =
     let s = c .before .before .before .before .before .before .args .book .now in
     let t = c .before .before .before .loop in
     let k = c .before .before .loop-test .taken in
-    (omega (arith, t .inv .0 .small (t .r) k, c .wide2 .ensures), omega (arith, sum-more s _ (t .r) k (t .inv .0 .there), c .wide2 .ensures))
+    (omega (arith, t .inv .0 .small (t .r) k, c .wide2 .ensures .0), omega (arith, sum-more s _ (t .r) k (t .inv .0 .there), c .wide2 .ensures .0))
 
 array-set-from-rows : tie.Need-array-set-from-rows Inv-loop μ-loop
 array-set-from-rows c = let t = c .before .before .before .before .loop in omega (arith, t .inv .0 .few)
@@ -49,7 +49,7 @@ add-at c =
     let s = c .before .before .before .before .before .before .before .args .book .now in
     let t = c .before .before .before .before .loop in
     let k = c .before .before .before .loop-test .taken in
-    record { fits = omega (arith, sum-more s _ (t .r) k (t .inv .0 .there), c .before .wide2 .ensures) }
+    record { fits = omega (arith, sum-more s _ (t .r) k (t .inv .0 .there), c .before .wide2 .ensures .0) }
 
 loop-again : tie.Need-loop-again Inv-loop μ-loop
 loop-again c =
@@ -60,15 +60,15 @@ loop-again c =
       t .inv .0,
       rw length-set (t .inv .1),
       omega arith,
-      omega (arith, sum-more (a .book .now) _ (t .r) k (t .inv .0 .there), m .ensures),
-      load-more (a .book .now) _ (t .r) (t .rows) (c .row-at .result) (a .list .now) (t .at) (m .result) (t .inv .0) (t .inv .1) k (m .ensures) (c .row-at .ensures) ∙ t .inv .4,
+      omega (arith, sum-more (a .book .now) _ (t .r) k (t .inv .0 .there), m .ensures .0),
+      load-more (a .book .now) _ (t .r) (t .rows) (c .row-at .result) (a .list .now) (t .at) (m .result) (t .inv .0) (t .inv .1) k (m .ensures .0) (c .row-at .ensures) ∙ t .inv .4,
     )
 
 returns : tie.Need-returns Inv-loop μ-loop
 returns c =
     let a = c .before .before .before .before .args in
     let t = c .before .loop in
-    load-done (a .book .now) (a .h) (t .rows) (a .list .now) (t .r) (t .at) _ (c .before .before .before .before .pre .0) (c .before .before .wide .ensures) (c .loop-test .left) (t .inv .4)
+    load-done (a .book .now) (a .h) (t .rows) (a .list .now) (t .r) (t .at) _ (c .before .before .before .before .pre .0) (c .before .before .wide .ensures .0) (c .loop-test .left) (t .inv .4)
 
 pub first-places-spec : {M : Type 1} → statement M
 first-places-spec =

@@ -29,7 +29,7 @@ row-differs-requires c κs =
     let t = c .before .before .before .before .before .loop in
     let k = c .before .before .before .before .loop-test .taken in
     let s = c .before .before .before .before .before .before .before .args .book .now in
-    (omega (arith, w .small (t .r) k, c .before .before .wide .ensures), omega (arith, sum-more s _ (t .r) k (w .there), c .before .before .wide .ensures))
+    (omega (arith, w .small (t .r) k, c .before .before .wide .ensures .0), omega (arith, sum-more s _ (t .r) k (w .there), c .before .before .wide .ensures .0))
 
 add-if1 : tie.Need-add-if1 Inv-loop μ-loop
 add-if1 c =
@@ -47,7 +47,7 @@ returns c =
     let k = c .before .before .before .before .before .before .loop-test .taken in
     let m = c .before .before .before .before .wide in
     via (t .inv .2)
-    (places-stop (a .book .now) (a .n) (t .r) (a .rows .now) w (a .list .now) (t .p) (m .result) k (m .ensures)
+    (places-stop (a .book .now) (a .n) (t .r) (a .rows .now) w (a .list .now) (t .p) (m .result) k (m .ensures .0)
     (omega (arith, sum-more (a .book .now) (a .n) (t .r) k (w .there))) (c .before .row-differs .ensures) (c .if1 .taken) refl)
 
 loop-again : tie.Need-loop-again Inv-loop μ-loop
@@ -59,10 +59,10 @@ loop-again c =
     let m = c .before .before .before .before .wide in
     let z = sum-more (a .book .now) (a .n) (t .r) k (w .there) in (
       omega arith,
-      omega (arith, m .ensures),
+      omega (arith, m .ensures .0),
       via (t .inv .2)
-          (places-on (a .book .now) (a .n) (t .r) (a .rows .now) w (a .list .now) (t .p) (m .result) k (m .ensures)
-          (omega (arith, m .ensures)) (c .before .row-differs .ensures) (c .if1 .left) refl),
+          (places-on (a .book .now) (a .n) (t .r) (a .rows .now) w (a .list .now) (t .p) (m .result) k (m .ensures .0)
+          (omega (arith, m .ensures .0)) (c .before .row-differs .ensures) (c .if1 .left) refl),
     )
 
 returns-2 : tie.Need-returns-2 Inv-loop μ-loop

@@ -16,21 +16,21 @@ shared-slice-read-wide : tie.Need-shared-slice-read-wide
 shared-slice-read-wide c =
     let a = c .before .before .before .before .args in
     let p = c .before .before .before .before .pre in
-    omega (arith, shape-read (a .book .now) (a .h) (p .0) .there, p .1 .0 .known (p .1 .1), c .before .before .wide .ensures)
+    omega (arith, shape-read (a .book .now) (a .h) (p .0) .there, p .1 .0 .known (p .1 .1), c .before .before .wide .ensures .0)
 
 values-row-requires : tie.Need-values-row-requires
 values-row-requires c κs =
     let a = c .before .before .before .before .before .args in
     let p = c .before .before .before .before .before .pre in
-    let r = c .before .before .before .wide .ensures in
-    let n = c .wide2 .ensures in
+    let r = c .before .before .before .wide .ensures .0 in
+    let n = c .wide2 .ensures .0 in
     (row-small (a .book .now) (a .h) (a .a) _ (p .0) (p .1 .0) (p .1 .1) r n, row-fixed (a .book .now) (a .h) (a .a) _ (p .0) (p .1 .0) (p .1 .1) r n)
 
 returns : tie.Need-returns
 returns c =
     let a = c .before .before .before .before .before .before .args in
     let p = c .before .before .before .before .before .before .pre in
-    row-fact (a .book .now) (a .h) (a .a) _ (p .0) (p .1 .0) (p .1 .1) (c .before .before .before .before .wide .ensures) (c .before .wide2 .ensures) (a .list .now) (c .values-row .result) (c .values-row .ensures)
+    row-fact (a .book .now) (a .h) (a .a) _ (p .0) (p .1 .0) (p .1 .1) (c .before .before .before .before .wide .ensures .0) (c .before .wide2 .ensures .0) (a .list .now) (c .values-row .result) (c .values-row .ensures)
 
 pub row-of-spec : {M : Type 1} → statement M
 row-of-spec =

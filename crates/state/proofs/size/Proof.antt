@@ -19,7 +19,7 @@ abbrev μ-loop : tie.MeasureT-loop
 loop-holds : tie.Need-loop-holds Inv-loop μ-loop
 loop-holds c =
     let a = c .before .before .args in
-    (rw (c .wide .ensures) (shape-read (a .book .now) (a .h) (c .before .before .pre)), omega arith, omega arith, refl)
+    (rw (c .wide .ensures .0) (shape-read (a .book .now) (a .h) (c .before .before .pre)), omega arith, omega arith, refl)
 
 shared-slice-read-wide : tie.Need-shared-slice-read-wide Inv-loop μ-loop
 shared-slice-read-wide c = omega (arith, c .before .before .loop .inv .0 .there)
@@ -27,7 +27,7 @@ shared-slice-read-wide c = omega (arith, c .before .before .loop .inv .0 .there)
 add-total : tie.Need-add-total Inv-loop μ-loop
 add-total c =
     let t = c .before .before .before .loop in
-    record { fits = omega (arith, t .inv .0 .few, t .inv .0 .small (t .r) (c .before .before .loop-test .taken), c .wide2 .ensures) }
+    record { fits = omega (arith, t .inv .0 .few, t .inv .0 .small (t .r) (c .before .before .loop-test .taken), c .wide2 .ensures .0) }
 
 loop-again : tie.Need-loop-again Inv-loop μ-loop
 loop-again c =
@@ -36,13 +36,13 @@ loop-again c =
     let k = c .before .before .loop-test .taken in
     let z = sum-more s _ (t .r) k (t .inv .0 .there) in
     let w = t .inv .0 .small (t .r) k in
-    (t .inv .0, omega arith, omega (arith, c .wide2 .ensures), omega (arith, c .wide2 .ensures))
+    (t .inv .0, omega arith, omega (arith, c .wide2 .ensures .0), omega (arith, c .wide2 .ensures .0))
 
 returns : tie.Need-returns Inv-loop μ-loop
 returns c =
     let a = c .before .before .before .before .args in
     let t = c .before .loop in
-    let n = c .before .before .wide .ensures in
+    let n = c .before .before .wide .ensures .0 in
     let z = sum-none (a .book .now) _ (t .r) (c .loop-test .left) (t .inv .0 .there) in
     record {
       is = omega (arith, rw n at (t .inv .3), rw n at z, size-is (a .book .now) (a .h) (c .before .before .before .before .pre));

@@ -5,7 +5,7 @@ use Rattle.steps.proofs.after.Statement.{statement}
 use Rattle.steps.proofs.after.Tie as tie
 
 returns : tie.Need-returns
-returns c = omega (arith, vars-of _ _ _ _ (c .before .clause-at .ensures), c .wide .ensures)
+returns c = omega (arith, vars-of _ _ _ _ (c .before .clause-at .ensures), c .wide .ensures .0)
 
 pub after-spec : {M : Type 1} → statement M
 after-spec =
