@@ -5,7 +5,7 @@ use crate::lists::Question;
 use crate::tally::{Call, Mark, Tally};
 use ruahmitz_judge as judge;
 use ruahmitz_kit as kit;
-use std::fmt::Debug;
+use std::fmt::{self, Debug, Display, Formatter};
 
 /// Number and place.
 type Reply = (u32, u64);
@@ -15,6 +15,13 @@ pub struct Difference {
     pub about: String,
     pub kit: String,
     pub judge: String,
+}
+
+impl Display for Difference {
+    fn fmt(&self, out: &mut Formatter) -> fmt::Result {
+        let Difference { call, about, kit, judge } = self;
+        write!(out, "{call:?} differs {about}\n    kit:   {kit}\n    judge: {judge}")
+    }
 }
 
 #[derive(Default)]

@@ -3,21 +3,9 @@
 //! `compare [--seed N] [--cases N] [--only CASE]`: the case of a number depends on the seed and that number alone, so that one which
 //! failed can be run again by itself. The last line is `N passed, M failed`; the exit status is 1 if any failed.
 
-mod books;
-mod cases;
-mod compare;
-mod damage;
-mod limits;
-mod lists;
-mod models;
-mod random;
-mod tally;
-mod trees;
-
-use cases::Case;
-use compare::{Comparer, Difference};
-use lists::Question;
-use ruahmitz_compare::draft;
+use ruahmitz_compare::cases::Case;
+use ruahmitz_compare::compare::{Comparer, Difference};
+use ruahmitz_compare::lists::Question;
 use std::process::ExitCode;
 use std::sync::atomic::{AtomicU64, Ordering};
 use std::time::Duration;
@@ -75,10 +63,8 @@ fn print_case(options: &Options, number: u64, case: &Case, differences: &[Differ
     print_question("derivation", &case.derivation, most);
     print_question("trace", &case.trace, most);
     println!("  model: {}", hex(&case.model));
-    for Difference { call, about, kit, judge } in differences {
-        println!("  {call:?} differs {about}");
-        println!("    kit:   {kit}");
-        println!("    judge: {judge}");
+    for difference in differences {
+        println!("  {difference}");
     }
 }
 
