@@ -4,7 +4,7 @@ ghost use Prim.Native.Nat.{_+_, _*_, _≤_, _<_};
 ghost use lib.ListN.{length};
 ghost use Rattle.book.specs.Read.{topArity, arityAt, aritiesAt, recordAt, clausesAt, headed, sized, trailer, read, entryAt, constraintOf};
 ghost use Rattle.book.specs.Span.{absent, spanAt, spanOf};
-ghost use Rattle.whole.specs.Bytes.{u16At, i32At};
+ghost use Rattle.whole.specs.Bytes.{u16At};
 ghost use Rattle.book.specs.Answer.{Answers};
 ghost use Rattle.book.specs.Joined.{Held};
 ghost use Rattle.book.specs.Laid.{pastArguments, recordOf, Room};
@@ -84,14 +84,6 @@ impl Header {
     }
 }
 
-// the four bytes at `at` as a window's end
-fn end_at(book: &[u8], at: usize) -> i32
-    requires { ⌜ at + 4 ≤ length (now book) ⌝ }
-    ensures { λ r. ⌜ r ≡ i32At (now (book .entry)) at ⌝ }
-{
-    whole::i32_at(book, at) as i32
-}
-
 // the two bytes at `at` as a place or a count
 fn short_at(book: &[u8], at: usize) -> usize
     requires { ⌜ at + 2 ≤ length (now book) ⌝ }
@@ -118,8 +110,8 @@ fn trailer_of(book: &[u8]) -> Reading
         });
     }
     let t = len - 16;
-    let lo = end_at(book, t);
-    let hi = end_at(book, t + 4);
+    let lo = whole::int_at(book, t);
+    let hi = whole::int_at(book, t + 4);
     let start = short_at(book, t + 8);
     let count = short_at(book, t + 10);
     let h = Header {

@@ -1,5 +1,8 @@
 // What the programs read from standard input and write to standard output.
 ghost use Prim.Native.Nat.{_≤_, _<_};
+ghost use mathlib.Core.Path.{_≡_};
+ghost use lib.ListN.{length};
+ghost use Rattle.console.specs.Console.{sumOn, sumFrom, Ends, again};
 use libc::STDIN_FILENO;
 use libc::STDOUT_FILENO;
 
@@ -22,12 +25,14 @@ pub fn print_answer(number: u8, place: usize) {
 // The checksum of what came before, and one byte more.
 fn summed(sum: usize, b: u8) -> usize
     requires { ⌜ sum < 65521 ⌝ }
-    ensures { λ r. ⌜ r < 65521 ⌝ }
+    ensures { λ r. ⌜ (r ≡ sumOn sum b) × (r < 65521) ⌝ }
 {
     (sum * 257 + whole::wide(b)) % 65521
 }
 
-fn checksum(part: &[u8]) -> usize {
+fn checksum(part: &[u8]) -> usize
+    ensures { λ r. ⌜ r ≡ sumFrom 0 (now (part .entry)) ⌝ }
+{
     let mut sum = 0;
     let mut i = 0;
     while i < part.len() {
@@ -59,17 +64,11 @@ pub fn put_bytes(room: &mut [u8], n: usize)
     io::read_full(STDIN_FILENO, &mut room[..n]);
 }
 
-fn number(b: &[u8; 4]) -> usize
-    ensures { λ r. ⌜ r < 4294967296 ⌝ }
-{
-    whole::u32_at(b, 0) as usize
-}
-
 // The next length. At the end of the input it is one that no room has.
 pub fn next_length() -> usize {
     let mut bytes = [0u8; 4];
     if filled(&mut bytes) {
-        return number(&bytes);
+        return whole::u32_at(&bytes, 0) as usize;
     }
     usize::MAX
 }
@@ -80,7 +79,7 @@ pub fn next() -> usize
 {
     let mut bytes = [0u8; 4];
     io::read_full(STDIN_FILENO, &mut bytes);
-    number(&bytes)
+    whole::u32_at(&bytes, 0) as usize
 }
 
 // A number of eight bytes.
@@ -90,27 +89,24 @@ pub fn next_long() -> usize {
     low + high * 4294967296
 }
 
-// The number as it stands in a list: two's complement.
-fn signed(n: usize) -> i32
-    requires { ⌜ n < 4294967296 ⌝ }
-{
-    if n < 2147483648 {
-        return n as i32;
-    }
-    !((4294967295 - n) as i32)
+// The next number of a list; 0 where the input ends before.
+fn next_int() -> i32 {
+    let mut bytes = [0u8; 4];
+    io::read_full(STDIN_FILENO, &mut bytes);
+    whole::int_at(&bytes, 0)
 }
 
 // ---- lists, in pieces: how many numbers are written of a piece, how many it has, and those written, with which it goes on over again
 
 // Puts `count` numbers of the input behind the first `at` of the room, as far as it goes; gives where they end.
 pub fn put_written(room: &mut [i32], at: usize, count: usize) -> usize
-    requires { do ⌜ at ≤ (← ⟦room.len()⟧) ⌝ }
-    ensures { λ r. do ⌜ r ≤ (← ⟦room.len()⟧ .entry) ⌝ }
+    requires { ⌜ at ≤ length (now room) ⌝ }
+    ensures { λ r. ⌜ (length (now (room .exit)) ≡ length (now (room .entry))) × Ends at count (length (now (room .entry))) r ⌝ }
 {
     let mut end = at;
     let mut left = count;
     while left > 0 && end < room.len() {
-        room[end] = signed(next());
+        room[end] = next_int();
         end += 1;
         left -= 1;
     }
@@ -119,12 +115,12 @@ pub fn put_written(room: &mut [i32], at: usize, count: usize) -> usize
 
 // Goes on for `more` numbers with the `count` that stand before `at`, over again; gives where they end.
 fn put_again(room: &mut [i32], at: usize, count: usize, more: usize) -> usize
-    requires { do ⌜ at ≤ (← ⟦room.len()⟧) ⌝ }
-    ensures { λ r. do ⌜ r ≤ (← ⟦room.len()⟧ .entry) ⌝ }
+    requires { ⌜ (count ≤ at) × (at ≤ length (now room)) ⌝ }
+    ensures { λ r. ⌜ (now (room .exit) ≡ again more count at (now (room .entry))) × Ends at more (length (now (room .entry))) r ⌝ }
 {
     let mut end = at;
     let mut left = more;
-    while left > 0 && end < room.len() && count <= end {
+    while left > 0 && end < room.len() {
         room[end] = room[end - count];
         end += 1;
         left -= 1;
@@ -140,7 +136,7 @@ fn put_piece(room: &mut [i32], at: usize) -> usize
     let count = next();
     let all = next();
     let end = put_written(room, at, count);
-    if all <= count {
+    if all <= count || end < count {
         return end;
     }
     put_again(room, end, count, all - count)

@@ -63,3 +63,11 @@ pub fn i32_at(s: &[u8], at: usize) -> i64
 {
     twos(u32_at(s, at) as u64, 2147483648)
 }
+
+// The same in 32 bits, as a window's end or a number of a list.
+pub fn int_at(s: &[u8], at: usize) -> i32
+    requires { ⌜ at + 4 ≤ length (now s) ⌝ }
+    ensures { λ r. ⌜ r ≡ i32At (now (s .entry)) at ⌝ }
+{
+    i32_at(s, at) as i32
+}
