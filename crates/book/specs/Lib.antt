@@ -8,3 +8,5 @@ pub mod Accepted
 pub mod Laid
 pub mod Trailer
 pub mod Example
+pub mod Arities
+pub mod Windows

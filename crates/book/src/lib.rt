@@ -1,12 +1,15 @@
 // The clause book: its trailer, arities, records and index, read to the byte.
 ghost use mathlib.Core.Path.{_≡_};
 ghost use Prim.Native.Nat.{_+_, _*_, _≤_, _<_};
-ghost use lib.ListN.{length};
+ghost use lib.ListN.{length, getD};
 ghost use Rattle.book.specs.Read.{topArity, arityAt, aritiesAt, recordAt, clausesAt, headed, sized, trailer, read, entryAt, constraintOf};
 ghost use Rattle.book.specs.Span.{absent, spanAt, spanOf};
 ghost use Rattle.whole.specs.Bytes.{u16At};
 ghost use Rattle.book.specs.Answer.{Answers};
 ghost use Rattle.book.specs.Joined.{Held};
+ghost use Rattle.book.specs.Meaning.{bookIn};
+ghost use Rattle.book.specs.Windows.{Windowed};
+ghost use Rattle.meaning.specs.Book.{none-such, placeWindow, variableWindow};
 ghost use Rattle.book.specs.Laid.{pastArguments, recordOf, Room};
 ghost use Rattle.book.specs.declared.Reading.the-variants.{Good};
 
@@ -24,6 +27,12 @@ pub struct Header {
 pub enum Reading {
     Good(Header),
     Refused(cursor::Refusal),
+}
+
+// The least and the greatest value that a place or a variable may have.
+pub struct Window {
+    pub lo: i32,
+    pub hi: i32,
 }
 
 // A part of a book: from byte `start` up to, and without, byte `end`.
@@ -351,4 +360,29 @@ pub fn record(book: &[u8], h: Header, k: usize) -> cursor::Clause
 {
     let c = entry(book, h.start, k);
     laid(book, c.at)
+}
+
+// ---- what an accepted book says of its relations and variables
+
+// How many places relation r has.
+pub fn arity_of(book: &[u8], h: Header, r: usize) -> usize
+    requires { ⌜ read (now book) ≡ Good h ⌝ }
+    requires { ⌜ r < h .relations ⌝ }
+    ensures { λ n. ⌜ (n ≡ getD (bookIn (now (book .entry)) h .arities) r 0) × (n ≤ 8) ⌝ }
+{
+    whole::wide(book[r])
+}
+
+// The window of place i of relation r.
+pub fn place_window(book: &[u8], h: Header, r: usize, i: usize) -> Window
+    ensures { λ w. ⌜ Windowed (placeWindow (bookIn (now (book .entry)) h) r i) w ⌝ }
+{
+    Window { lo: h.lo, hi: h.hi }
+}
+
+// The window of variable i of clause k.
+pub fn variable_window(book: &[u8], h: Header, k: usize, i: usize) -> Window
+    ensures { λ w. ⌜ Windowed (variableWindow (bookIn (now (book .entry)) h) (getD (bookIn (now (book .entry)) h .clauses) k none-such) i) w ⌝ }
+{
+    Window { lo: h.lo, hi: h.hi }
 }

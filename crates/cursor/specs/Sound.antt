@@ -75,7 +75,11 @@ module _ (s : List ℕ) where
     remainders = λ k w. omega (arith, k, w, at-of (k .next), at-of (w .next));
   }
 
-  -- a clause's constraint lies within the bytes
+  -- a constraint lies within the bytes
+  pub tree-part : (v p : ℕ) (w : IsTree v p) → (p ≤ w .end .at) × (w .end .at ≤ length s)
+  tree-part v p w = tree-by s v Within (within v) 16 _ (w .reads)
+
+  -- so does a clause's
   pub clause-part : (n : ℕ) (c : Cursor) (l : Clause) (e : Cursor) {r : ClauseStep} → r ≡ clauseAt s n c → r ≡ clauses.Got l e →
       (l .rule ≤ e .at) × (e .at ≤ length s)
   clause-part n c l e p q = let w = clause-read s n c (sym p ∙ q) in tree-by s (l .variables) Within (within (l .variables)) 16 _ (w .reads)

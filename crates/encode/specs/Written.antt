@@ -24,7 +24,8 @@ use Rattle.encode.specs.Stands.{Stands, Bytes, stands-room, stands-front
 use Rattle.encode.specs.RoundTrip.{headerOf}
 use Rattle.encode.specs.WrittenTree.{Spans, spans-join, u16-spans, i32-spans, i32-fits}
 use Rattle.encode.specs.WrittenClause.{part-spans, part-each, clause-written}
-use Rattle.encode.specs.WrittenRecords.{bytes-front, AreArities, arities-read, AreWritten, clauses-written}
+use Rattle.book.specs.Arities.{AreArities, arities-read}
+use Rattle.encode.specs.WrittenRecords.{bytes-front, AreWritten, clauses-written}
 
 top-small : (q i : ℕ) → topArity q i ≤ 8
 unfolding topArity pick

@@ -29,41 +29,6 @@ bytes-front s j b = record {
   below = λ i h. rw (getD-take j s i 0 (omega (arith, length-take j s))) (b .below i (omega (arith, length-take j s)));
 }
 
--- ---- the arities
-
--- k arities from c on, each at most what its relation may have
-pub record AreArities (s : List ℕ) (q k : ℕ) (c e : Cursor) : Type 0 where
-  pub within : c .at + k ≤ length s
-  pub each : (j : ℕ) → j < k → getD s (c .at + j) 0 ≤ topArity q (c .at + j)
-  pub past : e .at ≡ c .at + k
-
-module _ (s : List ℕ) (q : ℕ) where
-  arity-went : (c : Cursor) {e : Cursor} {Q : Type 0} → arityAt s q c ≡ Moved e →
-      (c .at < length s → getD s (c .at) 0 ≤ topArity q (c .at) → e .at ≡ c .at + 1 → Q) → Q
-  unfolding arityAt valueThen
-  arity-went c {e} r k =
-      byte-went _ _ _ no-step r λ b d x y.
-      pick-then _ _ _ (no-step _) y λ t z.
-      let w = byte-read s c x in
-      let same : d ≡ e = cc in
-      k (w .there) (rw (← (w .is)) (leb-true _ _ t)) (at-of (sym same ∙ w .next))
-
-  each-more : (k p : ℕ) → getD s p 0 ≤ topArity q p → ((j : ℕ) → j < k → getD s (p + 1 + j) 0 ≤ topArity q (p + 1 + j)) →
-      (j : ℕ) → j < suc k → getD s (p + j) 0 ≤ topArity q (p + j)
-  each-more k p t a zero i = let z : p + 0 ≡ p = omega arith in rw z t
-  each-more k p t a (suc j) i = let z : p + suc j ≡ p + 1 + j = omega arith in rw z (a j (omega arith))
-
-  pub arities-read : (k : ℕ) (c : Cursor) {e : Cursor} → c .at ≤ length s → aritiesAt k s q c ≡ Moved e → AreArities s q k c e
-  unfolding aritiesAt
-  arities-read zero c {e} h r =
-      let same : c ≡ e = cc in
-      record { within = omega arith; each = λ j i. absurd (let z : ⊥ = omega arith in z); past = at-of (sym same) ∙ omega arith }
-  arities-read (suc k) c h r =
-      step-went _ _ _ no-step r λ d x y.
-      arity-went c x λ there top next.
-      let a = arities-read k d (omega arith) y in
-      record { within = omega (arith, a .within); each = each-more k (c .at) top (rw next at (a .each)); past = omega (arith, a .past) }
-
 -- ---- the records, and the index of where they start
 
 module _ (s : List ℕ) (bytes : Bytes s) (start n : ℕ) where
