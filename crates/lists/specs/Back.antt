@@ -18,12 +18,14 @@ use Rattle.meaning.specs.System.{before, back, lastWriters}
 use Rattle.meaning.specs.State.{Control, State}
 use Rattle.lists.specs.Answer.{ok}
 use Rattle.lists.specs.Derivation.{numbers, goal}
-use Rattle.lists.specs.Trace.{size, firstOf, checkWalk, checkTrace}
+use Rattle.lists.specs.Trace.{size, traceWalk, firstOf, checkWalk, checkTrace}
 use Rattle.lists.specs.Convert.{traceSteps, asDerivation}
-use Rattle.lists.specs.Laws.{need-ok, and-ok, asked-exact}
-use Rattle.lists.specs.Due.{walkDue, walk-due-all, walk-due-none, walk-due-more}
-use Rattle.lists.specs.Walk.{move-exact}
-use Rattle.lists.specs.Places.{clauseHere, stepHere, after, start, start-next, steps-taken, steps-all, trace-steps-due}
+use Rattle.lists.specs.Laws.{and-ok, asked-exact}
+use Rattle.lists.specs.Walked.{clauseHere, stepHere, after, start, start-next}
+use Rattle.lists.specs.Due.{walk-due-all, trace-steps-due}
+use Rattle.lists.specs.Runs.{step-in-walk}
+use Rattle.lists.specs.Walk.{traceSense}
+use Rattle.lists.specs.Places.{steps-taken, steps-all}
 
 numbers-append : (d e : List Step) → numbers (d ++ e) ≡ numbers d ++ numbers e
 unfolding numbers
@@ -120,29 +122,11 @@ module _ (b : Book) (C : Control) (l : List ℤ) where
 
   -- ---- an accepted trace by its places
 
-  walk-next : (f : Fact) (i : ℕ) (σ : State C) → walkDue b C f l i σ ≡ ok → (ρ : State C) × (walkDue b C f l (after b (size b C) l i) ρ ≡ ok)
-  walk-next f i σ e = go (decLt i (length l))
-    where
-      go : Dec (i < length l) → (ρ : State C) × (walkDue b C f l (after b (size b C) l i) ρ ≡ ok)
-      go (yes h) = (_, and-ok _ _ .0 (rw (walk-due-more b C f l i σ h) at e) .1)
-      go (no h) =
-          let n = after b (size b C) l i in
-          let t = need-ok _ _ _ _ .0 (rw (walk-due-none b C f l i σ (omega arith)) at e) .0 in
-          (σ, rw (walk-due-none b C f l n σ (omega arith)) (need-ok _ 17 n ok .1 (t, refl)))
-
-  walk-at : (f : Fact) (i : ℕ) (σ : State C) (j : ℕ) → walkDue b C f l i σ ≡ ok → (ρ : State C) × (walkDue b C f l (start b (size b C) l i j) ρ ≡ ok)
-  unfolding start
-  walk-at f i σ zero e = (σ, e)
-  walk-at f i σ (suc j) e = let (ρ, q) = walk-at f i σ j e in walk-next f (start b (size b C) l i j) ρ q
-
   -- each step is an instance and stands there in full, with its next state
   pub step-in-trace : (r : ℕ) (vals : List ℤ) → checkTrace b C r vals l ≡ ok → (j : ℕ) → traceStart j < length l
       → Instance b (stepHere b l (traceStart j)) × (traceStart (j + 1) ≤ length l)
   unfolding checkTrace
-  step-in-trace r vals e j h =
+  step-in-trace r vals e =
       let f = goal r vals in
-      let i = traceStart j in
       let w = rw (walk-due-all b C f l) at (asked-exact b r vals l (checkWalk b C f l) .0 e .1) in
-      let (ρ, q) = walk-at f (size b C) (firstOf b C l) j (and-ok _ _ .0 w .1) in
-      let m = move-exact b C _ _ _ _ .0 (and-ok _ _ .0 (rw (walk-due-more b C f l i ρ h) at q) .0) in
-      (m .one, omega (arith, m .long, length-drop (i + 1) l, start-next b (size b C) l (size b C) j))
+      step-in-walk b (traceWalk b C f) (traceSense b C f) l (size b C) (firstOf b C l) (and-ok _ _ .0 w .1)

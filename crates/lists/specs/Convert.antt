@@ -1,7 +1,7 @@
 -- The two conversions between lists of numbers, and what each call answers and leaves in the lent room.
 use mathlib.Core.Bool.{Bool, true, false}
 use mathlib.Core.List.{List, [], _∷_, _++_}
-use Prim.Native.Nat.{ℕ, zero, suc}
+use Prim.Native.Nat.{ℕ}
 use lib.ListN.{length, drop}
 use lib.Dec.{leb}
 use lib.IntN.{ℤ}
@@ -9,24 +9,27 @@ use Rattle.meaning.specs.Book.{Book, Step}
 use Rattle.meaning.specs.System.{moves, lastWriters}
 use Rattle.meaning.specs.State.{Control, first, withPlaces}
 use Rattle.lists.specs.Answer.{Answer, ok, refused, need, andThen}
-use Rattle.lists.specs.Instance.{clauseNumber, clauseAt, stepAt}
+use Rattle.lists.specs.Instance.{stepAt}
+use Rattle.lists.specs.Walker.{Walker, walk}
 use Rattle.lists.specs.Derivation.{numbers, checkDerivation}
 use Rattle.lists.specs.Trace.{size, traceNumbers, checkTrace}
 
 -- ---- the steps that a list tells, where `gap` numbers stand after each step's values: none in a derivation, a state in a trace
 
-unfoldable pub stepsFrom : Book → ℕ → ℕ → List ℤ → List Step
-stepsFrom b gap zero l = []
-stepsFrom b gap (suc m) [] = []
-stepsFrom b gap (suc m) (x ∷ l) =
-    let k = clauseNumber b x in
-    stepAt b k l ∷ stepsFrom b gap m (drop gap (drop (clauseAt b k .vars) l))
+abbrev pub stepsWalk : Book → ℕ → Walker (List Step)
+stepsWalk b gap = record {
+  Memory = Unit {0};
+  gap = gap;
+  step = λ k l i o rest. stepAt b k l ∷ rest;
+  next = λ s o. o;
+  ended = λ i o. [];
+}
 
 unfoldable pub derivationSteps : Book → List ℤ → List Step
-derivationSteps b l = stepsFrom b 0 (length l) l
+derivationSteps b l = walk b (stepsWalk b 0) (length l) 0 tt l
 
 unfoldable pub traceSteps : Book → Control → List ℤ → List Step
-traceSteps b C l = stepsFrom b (size b C) (length l) (drop (size b C) l)
+traceSteps b C l = walk b (stepsWalk b (size b C)) (length l) (size b C) tt (drop (size b C) l)
 
 -- ---- what is written
 

@@ -4,68 +4,27 @@ use mathlib.Core.Logic.{_↔_}
 use mathlib.Core.Bool.{Bool, true, false}
 use mathlib.Core.Option.{Option, none, some}
 use mathlib.Core.List.{List, [], _∷_, _++_, map, reverse, reverseAux}
-use Prim.Native.Nat.{ℕ, zero, suc, _+_, _*_, _≤_, _<_}
-use native.Mathlib.Nat.{not-suc-le-zero, le-refl}
+use Prim.Native.Nat.{ℕ, _+_, _*_, _≤_, _<_}
 use native.Mathlib.Omega.{arith}
-use lib.ListN.{length, length-append}
-use lib.Seq.{drop-at}
+use lib.ListN.{length}
 use lib.Dec.{eqb}
 use lib.IntN.{ℤ}
 use Rattle.meaning.specs.Book.{Book, Fact, Step, head, body}
 use Rattle.meaning.specs.Limits.{Limits}
-use Rattle.meaning.specs.Derivation.{Chain, Derives}
-use Rattle.meaning.specs.System.{Move, Follows, Reaches, moves, steps, turn, back, lastWriters}
-use Rattle.meaning.specs.State.{Control, State, Initial, withPlaces, first}
+use Rattle.meaning.specs.Derivation.{Derives}
+use Rattle.meaning.specs.System.{Reaches, moves, steps, turn, back, lastWriters}
+use Rattle.meaning.specs.State.{Control, withPlaces, first}
 use Rattle.meaning.specs.Laws.{ControlLaws, laws}
 use Rattle.meaning.specs.Conversions.{steps-moves, writers-length, writers-derivation}
 use Rattle.meaning.specs.Main.{trace-to-derivation, derivation-to-first-trace}
 use Rattle.lists.specs.Answer.{ok}
 use Rattle.lists.specs.Derivation.{numbers, goal, checkDerivation}
-use Rattle.lists.specs.Trace.{sum, stateNumbers, size, moveNumbers, traceNumbers, checkTrace}
-use Rattle.lists.specs.Instance.{clauseNumber}
-use Rattle.lists.specs.Convert.{stepsFrom, derivationSteps, traceSteps, asTrace, asDerivation}
-use Rattle.lists.specs.Laws.{step-at, after-step}
+use Rattle.lists.specs.Trace.{sum, size, checkTrace}
+use Rattle.lists.specs.Convert.{derivationSteps, traceSteps, asTrace, asDerivation}
 use Rattle.lists.specs.Exact.{checkDerivation-exact}
-use Rattle.lists.specs.Walk.{Trace, Good, initial-good, write-good, state-length, checkTrace-exact}
-use Rattle.lists.specs.Numbers.{numbers-length, moveLength, moves-longer, trace-length}
-
--- ---- a list tells the steps that it was made of
-
-derivation-told : (b : Book) (m : ℕ) (o : Option Fact) (d : List Step) → length (numbers d) ≤ m → Chain b o d → stepsFrom b 0 m (numbers d) ≡ d
-unfolding stepsFrom numbers clauseNumber
-derivation-told b zero o [] h c = refl
-derivation-told b zero o (s ∷ d) h c = absurd (not-suc-le-zero h)
-derivation-told b (suc m) o [] h c = refl
-derivation-told b (suc m) o (s ∷ d) h c =
-    rw (step-at b s (numbers d) (c .0), after-step b s (numbers d) (c .0))
-    (ap (λ (e : List Step). s ∷ e) (derivation-told b m (some (head b s)) d (omega (arith, length-append (s .vals) (numbers d))) (c .2)))
-
-pub steps-of-numbers : (b : Book) (o : Option Fact) (d : List Step) → Chain b o d → derivationSteps b (numbers d) ≡ d
-unfolding derivationSteps
-steps-of-numbers b o d c = derivation-told b (length (numbers d)) o d (le-refl _) c
-
-module _ (b : Book) (C : Control) (K : ControlLaws C) (L : Limits b) where
-  trace-told : (n : ℕ) (σ : State C) (ms : List (Move b (withPlaces b C))) → length (moveNumbers b C ms) ≤ n → Good b C K σ → Follows b (withPlaces b C) σ ms
-      → stepsFrom b (size b C) n (moveNumbers b C ms) ≡ steps b (withPlaces b C) ms
-  unfolding stepsFrom moveNumbers clauseNumber
-  trace-told zero σ [] h g c = refl
-  trace-told zero σ (m ∷ ms) h g c = absurd (not-suc-le-zero h)
-  trace-told (suc n) σ [] h g c = refl
-  trace-told (suc n) σ (m ∷ ms) h g c =
-      let s = m .step in
-      let state : List ℤ = stateNumbers b C (m .next) in
-      let rest : List ℤ = moveNumbers b C ms in
-      let g′ : Good b C K (m .next) = rw (c .2) (write-good b C K L g (c .0)) in
-      rw (step-at b s (state ++ rest) (c .0), after-step b s (state ++ rest) (c .0), drop-at state rest (size b C) (state-length b C K (m .next) g′))
-      (ap (λ (e : List Step). s ∷ e) (trace-told n (m .next) ms (omega (arith, length-append (s .vals) (state ++ rest), length-append state rest)) g′ (c .3)))
-
-  pub steps-of-trace : (σ : State C) (ms : List (Move b (withPlaces b C))) → Initial b C σ → Follows b (withPlaces b C) σ ms
-      → traceSteps b C (traceNumbers b C σ ms) ≡ steps b (withPlaces b C) ms
-  unfolding traceSteps traceNumbers
-  steps-of-trace σ ms i c =
-      let g = initial-good b C K i in
-      rw (drop-at (stateNumbers b C σ) (moveNumbers b C ms) (size b C) (state-length b C K σ g))
-      (trace-told (length (stateNumbers b C σ ++ moveNumbers b C ms)) σ ms (rw length-append (omega arith)) g c)
+use Rattle.lists.specs.Walk.{Trace, checkTrace-exact}
+use Rattle.lists.specs.Runs.{stepLength}
+use Rattle.lists.specs.Numbers.{gaps-longer, steps-of-numbers, numbers-length, steps-of-trace, trace-length}
 
 -- ---- the last writers are some of the steps
 
@@ -101,12 +60,12 @@ some-number b (s ∷ d) f h = omega arith
 pub derivation-read : (b : Book) (r : ℕ) (vals l : List ℤ) → checkDerivation b r vals l ≡ ok → (numbers (derivationSteps b l) ≡ l) × Derives b (derivationSteps b l) (goal r vals)
 derivation-read b r vals l e =
     let h = checkDerivation-exact b r vals l .0 e in
-    let told : derivationSteps b l ≡ h .steps = rw (h .listed) at (steps-of-numbers b none (h .steps) (h .derives .chain)) in
+    let told : derivationSteps b l ≡ h .steps = rw (h .listed) at (steps-of-numbers b (goal r vals) (h .steps) (h .derives)) in
     rw told (h .listed, h .derives)
 
 module _ (b : Book) (C : Control) (K : ControlLaws C) (L : Limits b) (r : ℕ) (vals l : List ℤ) where
   trace-read : (h : Trace b C r vals l) → traceSteps b C l ≡ steps b (withPlaces b C) (h .moves)
-  trace-read h = rw (h .listed) at (steps-of-trace b C K L (h .first) (h .moves) (h .reaches .init) (h .reaches .follows))
+  trace-read h = rw (h .listed) at (steps-of-trace b C K L (goal r vals) (h .first) (h .moves) (h .reaches))
 
   -- ---- derivation to trace
 
@@ -119,7 +78,7 @@ module _ (b : Book) (C : Control) (K : ControlLaws C) (L : Limits b) (r : ℕ) (
   asTrace-steps e =
       let σ = first b C in
       let d = derivationSteps b l in
-      steps-of-trace b C K L σ (moves b (withPlaces b C) σ d) (reached e .init) (reached e .follows) ∙ steps-moves b (withPlaces b C) σ d
+      steps-of-trace b C K L (goal r vals) σ (moves b (withPlaces b C) σ d) (reached e) ∙ steps-moves b (withPlaces b C) σ d
 
   pub as-many-steps : checkDerivation b r vals l ≡ ok → length (traceSteps b C (asTrace b C l)) ≡ length (derivationSteps b l)
   as-many-steps e = ap length (asTrace-steps e)
@@ -132,10 +91,10 @@ module _ (b : Book) (C : Control) (K : ControlLaws C) (L : Limits b) (r : ℕ) (
       let (p, h) = derivation-read b r vals l e in
       omega (
         arith,
-        trace-length b C K L σ (moves b (withPlaces b C) σ d) (reached e .init) (reached e .follows),
-        ap (λ (τ : List Step). sum (map (moveLength b C) τ)) (steps-moves b (withPlaces b C) σ d),
-        moves-longer b C d,
-        numbers-length b none d (h .chain),
+        trace-length b C K L (goal r vals) σ (moves b (withPlaces b C) σ d) (reached e),
+        ap (λ (τ : List Step). sum (map (stepLength b (size b C)) τ)) (steps-moves b (withPlaces b C) σ d),
+        gaps-longer b (size b C) d,
+        numbers-length b (goal r vals) d h,
         ap length p,
       )
 
@@ -168,7 +127,7 @@ module _ (b : Book) (C : Control) (K : ControlLaws C) (L : Limits b) (r : ℕ) (
   -- what is written tells the last writers
   pub asDerivation-steps : checkTrace b C r vals l ≡ ok → derivationSteps b (asDerivation b C r l) ≡ lastWriters b r (traceSteps b C l)
   unfolding asDerivation
-  asDerivation-steps e = steps-of-numbers b none (lastWriters b r (traceSteps b C l)) (last-derives e .chain)
+  asDerivation-steps e = steps-of-numbers b (goal r vals) (lastWriters b r (traceSteps b C l)) (last-derives e)
 
   pub no-more-steps : checkTrace b C r vals l ≡ ok → length (derivationSteps b (asDerivation b C r l)) ≤ length (traceSteps b C l)
   no-more-steps e = rw (asDerivation-steps e) (writers-length b r (traceSteps b C l))
@@ -180,8 +139,8 @@ module _ (b : Book) (C : Control) (K : ControlLaws C) (L : Limits b) (r : ℕ) (
       let h = checkTrace-exact b C K L r vals l .0 e in
       let τ = traceSteps b C l in
       let d = lastWriters b r τ in
-      let n : length l ≡ size b C + sum (map (moveLength b C) τ) = rw (trace-read h) (rw (h .listed) at (trace-length b C K L (h .first) (h .moves) (h .reaches .init) (h .reaches .follows))) in
-      rw (asDerivation-steps e) (omega (arith, writers-weight b (moveLength b C) r τ, moves-longer b C d, numbers-length b none d (last-derives e .chain)))
+      let n : length l ≡ size b C + sum (map (stepLength b (size b C)) τ) = rw (trace-read h) (rw (h .listed) at (trace-length b C K L (goal r vals) (h .first) (h .moves) (h .reaches))) in
+      rw (asDerivation-steps e) (omega (arith, writers-weight b (stepLength b (size b C)) r τ, gaps-longer b (size b C) d, numbers-length b (goal r vals) d (last-derives e)))
 
   pub asDerivation-length : checkTrace b C r vals l ≡ ok → length (asDerivation b C r l) ≤ length l
   asDerivation-length e = omega (arith, asDerivation-fits e)

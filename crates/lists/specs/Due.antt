@@ -1,116 +1,79 @@
--- The two checks from a place of the list on, for a loop.
-use mathlib.Core.Path.{_≡_, refl, ap}
+-- The walks of a derivation, of a trace and of a list's steps, from a place of the list on.
+use mathlib.Core.Path.{_≡_, ap, _∙_}
 use mathlib.Core.Option.{Option, none, some}
 use mathlib.Core.List.{List, [], _∷_}
-use Prim.Native.Nat.{ℕ, zero, suc, _+_, _-_, _≤_, _<_}
-use native.Mathlib.Nat.{not-suc-le-zero}
-use native.Mathlib.Numerals.{add-one}
+use Prim.Native.Nat.{ℕ, _+_, _≤_, _<_}
+use native.Mathlib.Nat.{add-zero}
 use native.Mathlib.Omega.{arith}
-use lib.ListN.{length, getD, drop, length-drop, drop-of-length-le}
-use lib.Seq.{drop-cons, drop-drop}
+use lib.ListN.{length, getD, drop}
 use lib.IntN.{ℤ, pos}
-use Rattle.meaning.specs.Book.{Book, Fact, head}
+use Rattle.meaning.specs.Book.{Book, Fact, Step, head}
 use Rattle.meaning.specs.State.{Control, State, write}
 use Rattle.lists.specs.Answer.{Answer, ok, need, andThen}
 use Rattle.lists.specs.Compare.{same}
 use Rattle.lists.specs.Instance.{clauseNumber, clauseAt, stepAt}
-use Rattle.lists.specs.Derivation.{judgeStep, checkFrom, check}
-use Rattle.lists.specs.Trace.{size, has, judgeMove, walkFrom, firstOf, judgeFirst, checkWalk}
-
-shorter : (n m : ℕ) (x : ℤ) (l : List ℤ) → length (x ∷ l) ≤ suc m → length (drop n l) ≤ m
-shorter n m x l h = rw length-drop (omega arith)
-
--- what is left from place i on, where one is there
-from : (l : List ℤ) (i : ℕ) → i < length l → drop i l ≡ getD l i (pos 0) ∷ drop (i + 1) l
-from l i h = rw add-one (drop-cons l i (pos 0) h)
+use Rattle.lists.specs.Derivation.{judgeStep, derivationWalk, check}
+use Rattle.lists.specs.Trace.{size, has, judgeMove, traceWalk, firstOf, judgeFirst, checkWalk}
+use Rattle.lists.specs.Convert.{stepsWalk, derivationSteps, traceSteps}
+use Rattle.lists.specs.Walked.{stepHere, after, walked, walked-all, walked-none, walked-more}
 
 -- ---- derivations
 
 module _ (b : Book) (f : Fact) where
-  -- any count that is large enough gives the same
-  pub check-count : (m n i : ℕ) (o : Option Fact) (l : List ℤ) → length l ≤ m → length l ≤ n → checkFrom b f m i o l ≡ checkFrom b f n i o l
-  unfolding checkFrom
-  check-count zero zero i o l h g = refl
-  check-count zero (suc n) i o [] h g = refl
-  check-count (suc m) zero i o [] h g = refl
-  check-count (suc m) (suc n) i o [] h g = refl
-  check-count zero (suc n) i o (x ∷ l) h g = absurd (not-suc-le-zero h)
-  check-count (suc m) zero i o (x ∷ l) h g = absurd (not-suc-le-zero g)
-  check-count (suc m) (suc n) i o (x ∷ l) h g =
-      let k = clauseNumber b x in
-      let v = clauseAt b k .vars in
-      ap (andThen (judgeStep b k l i o)) (check-count m n (i + 1 + v) (some (head b (stepAt b k l))) (drop v l) (shorter v m x l h) (shorter v n x l g))
-
   -- what is due from place i on, where o is the fact just before
-  unfoldable pub due : List ℤ → ℕ → Option Fact → Answer
-  due l i o = checkFrom b f (length l - i) i o (drop i l)
+  abbrev pub due : List ℤ → ℕ → Option Fact → Answer
+  due = walked b (derivationWalk b f)
 
   pub due-all : (l : List ℤ) → check b f l ≡ due l 0 none
-  unfolding check due
-  due-all l = check-count (length l) (length l - 0) 0 none l (omega arith) (omega arith)
+  unfolding check
+  due-all l = walked-all b (derivationWalk b f) l (length l) 0 none (omega arith)
 
   pub due-none : (l : List ℤ) (i : ℕ) (o : Option Fact) → length l ≤ i → due l i o ≡ need (same o (some f)) 17 i ok
-  unfolding due checkFrom
-  due-none l i o h =
-      let z : length l - i ≡ 0 = omega arith in
-      rw (drop-of-length-le l h, z)
+  due-none = walked-none b (derivationWalk b f)
 
   pub due-more : (l : List ℤ) (i : ℕ) (o : Option Fact) → i < length l →
       let k = clauseNumber b (getD l i (pos 0)) in
       let r = drop (i + 1) l in
       due l i o ≡ andThen (judgeStep b k r i o) (due l (i + 1 + clauseAt b k .vars) (some (head b (stepAt b k r))))
-  unfolding due checkFrom
-  due-more l i o h =
-      let k = clauseNumber b (getD l i (pos 0)) in
-      let v = clauseAt b k .vars in
-      let r = drop (i + 1) l in
-      let z : length l - i ≡ suc (length r) = rw length-drop (omega arith) in
-      rw (z, from l i h) (ap (andThen (judgeStep b k r i o))
-      (rw drop-drop (check-count (length r) (length l - (i + 1 + v)) (i + 1 + v) _ (drop (i + 1 + v) l)
-      (simp length-drop (omega arith)) (simp length-drop (omega arith)))))
+  due-more l i o h = walked-more b (derivationWalk b f) l i o h ∙ rw add-zero
 
 -- ---- traces
 
 module _ (b : Book) (C : Control) (f : Fact) where
-  pub walk-count : (m n i : ℕ) (σ : State C) (l : List ℤ) → length l ≤ m → length l ≤ n → walkFrom b C f m i σ l ≡ walkFrom b C f n i σ l
-  unfolding walkFrom
-  walk-count zero zero i σ l h g = refl
-  walk-count zero (suc n) i σ [] h g = refl
-  walk-count (suc m) zero i σ [] h g = refl
-  walk-count (suc m) (suc n) i σ [] h g = refl
-  walk-count zero (suc n) i σ (x ∷ l) h g = absurd (not-suc-le-zero h)
-  walk-count (suc m) zero i σ (x ∷ l) h g = absurd (not-suc-le-zero g)
-  walk-count (suc m) (suc n) i σ (x ∷ l) h g =
-      let k = clauseNumber b x in
-      let v = clauseAt b k .vars in
-      ap (andThen (judgeMove b C k l i σ))
-      (rw drop-drop (walk-count m n (i + 1 + v + size b C) (write C (head b (stepAt b k l)) σ) (drop (v + size b C) l) (shorter (v + size b C) m x l h) (shorter (v + size b C) n x l g)))
-
   -- what is due from place i on, where σ is the state there
-  unfoldable pub walkDue : List ℤ → ℕ → State C → Answer
-  walkDue l i σ = walkFrom b C f (length l - i) i σ (drop i l)
+  abbrev pub walkDue : List ℤ → ℕ → State C → Answer
+  walkDue = walked b (traceWalk b C f)
 
   pub walk-due-all : (l : List ℤ) → checkWalk b C f l ≡ andThen (judgeFirst b C l) (walkDue l (size b C) (firstOf b C l))
-  unfolding checkWalk walkDue
-  walk-due-all l = ap (andThen (judgeFirst b C l))
-      (walk-count (length l) (length l - size b C) (size b C) (firstOf b C l) (drop (size b C) l) (rw length-drop (omega arith)) (rw length-drop (omega arith)))
+  unfolding checkWalk
+  walk-due-all l = ap (andThen (judgeFirst b C l)) (walked-all b (traceWalk b C f) l (length l) (size b C) (firstOf b C l) (omega arith))
 
   pub walk-due-none : (l : List ℤ) (i : ℕ) (σ : State C) → length l ≤ i → walkDue l i σ ≡ need (has b C f σ) 17 i ok
-  unfolding walkDue walkFrom
-  walk-due-none l i σ h =
-      let z : length l - i ≡ 0 = omega arith in
-      rw (drop-of-length-le l h, z)
+  walk-due-none = walked-none b (traceWalk b C f)
 
   pub walk-due-more : (l : List ℤ) (i : ℕ) (σ : State C) → i < length l →
       let k = clauseNumber b (getD l i (pos 0)) in
       let r = drop (i + 1) l in
       walkDue l i σ ≡ andThen (judgeMove b C k r i σ) (walkDue l (i + 1 + clauseAt b k .vars + size b C) (write C (head b (stepAt b k r)) σ))
-  unfolding walkDue walkFrom
-  walk-due-more l i σ h =
-      let k = clauseNumber b (getD l i (pos 0)) in
-      let j = i + 1 + clauseAt b k .vars + size b C in
-      let r = drop (i + 1) l in
-      let z : length l - i ≡ suc (length r) = rw length-drop (omega arith) in
-      rw (z, from l i h) (ap (andThen (judgeMove b C k r i σ))
-      (simp drop-drop (walk-count (length r) (length l - j) j _ (drop j l)
-      (simp length-drop (omega arith)) (simp length-drop (omega arith)))))
+  walk-due-more = walked-more b (traceWalk b C f)
+
+-- ---- the steps that a list tells
+
+module _ (b : Book) (gap : ℕ) where
+  -- the steps from place i on
+  abbrev pub stepsDue : List ℤ → ℕ → List Step
+  stepsDue l i = walked b (stepsWalk b gap) l i tt
+
+  pub steps-due-none : (l : List ℤ) (i : ℕ) → length l ≤ i → stepsDue l i ≡ []
+  steps-due-none l i h = walked-none b (stepsWalk b gap) l i tt h
+
+  pub steps-due-more : (l : List ℤ) (i : ℕ) → i < length l → stepsDue l i ≡ stepHere b l i ∷ stepsDue l (after b gap l i)
+  steps-due-more l i h = walked-more b (stepsWalk b gap) l i tt h
+
+pub derivation-steps-due : (b : Book) (l : List ℤ) → derivationSteps b l ≡ stepsDue b 0 l 0
+unfolding derivationSteps
+derivation-steps-due b l = walked-all b (stepsWalk b 0) l (length l) 0 tt (omega arith)
+
+pub trace-steps-due : (b : Book) (C : Control) (l : List ℤ) → traceSteps b C l ≡ stepsDue b (size b C) l (size b C)
+unfolding traceSteps
+trace-steps-due b C l = walked-all b (stepsWalk b (size b C)) l (length l) (size b C) tt (omega arith)

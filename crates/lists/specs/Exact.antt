@@ -2,65 +2,57 @@
 use mathlib.Core.Path.{_≡_, refl}
 use mathlib.Core.Logic.{_↔_}
 use mathlib.Core.Option.{Option, none, some}
-use mathlib.Core.List.{List, [], _∷_, _++_}
-use Prim.Native.Nat.{ℕ, zero, suc, _+_, _≤_}
-use native.Mathlib.Nat.{not-suc-le-zero, le-refl}
-use native.Mathlib.Omega.{arith}
-use lib.ListN.{length, drop, length-append, length-take, take-append-drop}
+use mathlib.Core.List.{List, [], _∷_}
+use Prim.Native.Nat.{ℕ}
+use native.Mathlib.Nat.{le-refl}
+use lib.ListN.{length}
 use lib.IntN.{ℤ}
-use Rattle.meaning.specs.Book.{Book, Fact, Step, Instance, head, body, clauseOf}
+use Rattle.meaning.specs.Book.{Book, Fact, Step, head, body}
 use Rattle.meaning.specs.Derivation.{Chain, lastHead, Derives}
 use Rattle.lists.specs.Answer.{ok}
-use Rattle.lists.specs.Instance.{clauseNumber, clauseAt, stepAt}
-use Rattle.lists.specs.Derivation.{numbers, judgeStep, checkFrom, check, goal, checkDerivation}
-use Rattle.lists.specs.Laws.{refused-not, need-ok, and-ok, same-exact, judge-exact, clause-number, step-at, after-step, Asked, asked-exact}
+use Rattle.lists.specs.Instance.{stepAt}
+use Rattle.lists.specs.Compare.{same}
+use Rattle.lists.specs.Derivation.{numbers, judgeStep, derivationWalk, check, goal, checkDerivation}
+use Rattle.lists.specs.Laws.{need-ok, and-says, same-exact, enabled-exact, Asked, asked-exact}
+use Rattle.lists.specs.Runs.{Judged, Sense, written, Runs, accepts-only, accepts-every}
 
-pub step-exact : (b : Book) (k : ℕ) (l : List ℤ) (i : ℕ) (o : Option Fact)
-    → (judgeStep b k l i o ≡ ok) ↔ (Instance b (stepAt b k l) × (body b (stepAt b k l) ≡ o))
+pub step-exact : (b : Book) (k : ℕ) (l : List ℤ) (i : ℕ) (o : Option Fact) → (judgeStep b k l i o ≡ ok) ↔ Judged b 0 k l (λ p. p ≡ o) (λ s. [])
 unfolding judgeStep
 step-exact b k l i o =
-    let one = judge-exact b k 0 l i in
-    let met = same-exact (body b (stepAt b k l)) o in (
-      λ e. let (j, t) = and-ok _ _ .0 e in (one .0 j .0, met .0 (need-ok _ _ _ _ .0 t .0)),
-      λ h. and-ok _ _ .1 (one .1 (h .0, omega (arith, rw length-take at (h .0 .count))), need-ok _ 16 i ok .1 (met .1 (h .1), refl)),
-    )
+    let one = enabled-exact b k 0 l i (same (body b (stepAt b k l)) o) in
+    let met = same-exact (body b (stepAt b k l)) o in
+    (λ e. let (x, n, t) = one .0 e in record { one = x; long = n; met = met .0 t; next = refl }, λ h. one .1 (h .one, h .long, met .1 (h .met)))
 
 module _ (b : Book) (f : Fact) where
-  -- it accepts only derivations
-  only : (m i : ℕ) (o : Option Fact) (l : List ℤ) → checkFrom b f m i o l ≡ ok
-      → (d : List Step) × (numbers d ≡ l) × Chain b o d × (lastHead b o d ≡ some f)
-  unfolding checkFrom numbers
-  only zero i o [] e = ([], refl, tt, same-exact o (some f) .0 (need-ok _ _ _ _ .0 e .0))
-  only zero i o (x ∷ l) e = absurd (refused-not e)
-  only (suc m) i o [] e = ([], refl, tt, same-exact o (some f) .0 (need-ok _ _ _ _ .0 e .0))
-  only (suc m) i o (x ∷ l) e =
-      let k = clauseNumber b x in
-      let n = clauseAt b k .vars in
-      let s = stepAt b k l in
-      let (j, more) = and-ok _ _ .0 e in
-      let (one, met) = step-exact b k l i o .0 j in
-      let (d, p, c, t) = only m (i + 1 + n) (some (head b s)) (drop n l) more in
-      (s ∷ d, rw (p, take-append-drop, clause-number b x (one .there)), (one, met, c), t)
+  -- a step's body is the fact just before, the last fact is the goal, and nothing stands in a gap
+  abbrev pub derivationSense : Sense b (derivationWalk b f)
+  derivationSense = record {
+    Met = λ p o. p ≡ o;
+    Done = λ o. o ≡ some f;
+    shown = λ o. [];
+    step-says = λ k l i o a. and-says (judgeStep b k l i o) a (step-exact b k l i o);
+    end-says = λ i o. (λ e. same-exact o (some f) .0 (need-ok _ _ _ _ .0 e .0), λ t. need-ok _ 17 i ok .1 (same-exact o (some f) .1 t, refl));
+  }
 
-  -- and every derivation
-  every : (m i : ℕ) (o : Option Fact) (d : List Step) → length (numbers d) ≤ m → Chain b o d → lastHead b o d ≡ some f → checkFrom b f m i o (numbers d) ≡ ok
-  unfolding checkFrom numbers clauseNumber
-  every zero i o [] h c t = need-ok _ 17 i ok .1 (same-exact o (some f) .1 t, refl)
-  every zero i o (s ∷ d) h c t = absurd (not-suc-le-zero h)
-  every (suc m) i o [] h c t = need-ok _ 17 i ok .1 (same-exact o (some f) .1 t, refl)
-  every (suc m) i o (s ∷ d) h c t =
-      let v = clauseOf b s .vars in
-      let here : stepAt b (s .clause) (s .vals ++ numbers d) ≡ s = step-at b s (numbers d) (c .0) in
-      and-ok _ _ .1 (
-        step-exact b (s .clause) (s .vals ++ numbers d) i o .1 (rw here (c .0), rw here (c .1)),
-        rw (here, after-step b s (numbers d) (c .0)) (every m (i + 1 + v) (some (head b s)) d (omega (arith, length-append (s .vals) (numbers d))) (c .2) t),
-      )
+  pub numbers-written : (o : Option Fact) (d : List Step) → written b (derivationWalk b f) derivationSense o d ≡ numbers d
+  unfolding numbers
+  numbers-written o [] = refl
+  numbers-written o (s ∷ d) = rw (numbers-written (some (head b s)) d)
+
+  pub derivation-runs : (o : Option Fact) (d : List Step) → Runs b (derivationWalk b f) derivationSense o d ↔ (Chain b o d × (lastHead b o d ≡ some f))
+  derivation-runs o [] = (λ t. (tt, t), λ h. h .1)
+  derivation-runs o (s ∷ d) =
+      let rest = derivation-runs (some (head b s)) d in
+      (λ r. let (c, t) = rest .0 (r .3) in ((r .0, r .1, c), t), λ h. (h .0 .0, h .0 .1, refl, rest .1 (h .0 .2, h .1)))
 
   pub check-exact : (l : List ℤ) → (check b f l ≡ ok) ↔ ((d : List Step) × (numbers d ≡ l) × Derives b d f)
   unfolding check
   check-exact l = (
-    λ e. let (d, p, c, t) = only (length l) 0 none l e in (d, p, record { chain = c; last = t }),
-    λ h. rw (h .1) at (every (length (numbers (h .0))) 0 none (h .0) (le-refl _) (h .2 .chain) (h .2 .last)),
+    λ e. let (d, p, r) = accepts-only b (derivationWalk b f) derivationSense (length l) 0 none l (le-refl _) e in
+        let (c, t) = derivation-runs none d .0 r in
+        (d, rw (numbers-written none d) at p, record { chain = c; last = t }),
+    λ h. let d = h .0 in
+        rw (h .1) at (rw (numbers-written none d) at (accepts-every b (derivationWalk b f) derivationSense (length (numbers d)) 0 none d (rw (numbers-written none d) (le-refl _)) (derivation-runs none d .1 (h .2 .chain, h .2 .last)))),
   )
 
 -- ---- with the goal and the list's length

@@ -1,4 +1,5 @@
--- Judging one instance, which a step of a derivation and a step of a trace share: refusals 12 to 15.
+-- Judging one step, which a derivation and a trace share: refusals 12 to 16.
+use mathlib.Core.Bool.{Bool, true, false}
 use mathlib.Core.List.{List}
 use Prim.Native.Nat.{ℕ, _+_}
 use lib.ListN.{length, getD, take}
@@ -6,7 +7,7 @@ use lib.Dec.{leb, ltb}
 use lib.IntN.{ℤ, pos, negsuc}
 use Rattle.meaning.specs.Constraint.{holds}
 use Rattle.meaning.specs.Book.{Book, Clause, Step, none-such, variableWindow}
-use Rattle.lists.specs.Answer.{Answer, ok, need}
+use Rattle.lists.specs.Answer.{Answer, ok, need, andThen}
 use Rattle.lists.specs.Compare.{allIn, firstOut}
 
 -- a list's number as a clause's number; below zero it is one that no clause has
@@ -31,3 +32,7 @@ judgeClause b c more l i =
 
 unfoldable pub judge : Book → ℕ → ℕ → List ℤ → ℕ → Answer
 judge b k more l i = need (ltb k (length (b .clauses))) 12 i (judgeClause b (clauseAt b k) more l i)
+
+-- a step that may be taken where its body is met
+unfoldable pub judgeEnabled : Book → ℕ → ℕ → List ℤ → ℕ → Bool → Answer
+judgeEnabled b k more l i met = andThen (judge b k more l i) (need met 16 i ok)

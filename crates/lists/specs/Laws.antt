@@ -1,9 +1,9 @@
 -- When the parts that the two checks share accept.
-use mathlib.Core.Path.{_≡_, refl, sym, ap, ap₂, _∙_}
+use mathlib.Core.Path.{_≡_, refl, ap, ap₂}
 use mathlib.Core.Logic.{_↔_}
 use mathlib.Core.Bool.{Bool, true, false, _&&_}
 use mathlib.Core.Option.{Option, none, some}
-use mathlib.Core.List.{List, [], _∷_, _++_, tail-eq-of-cons-eq}
+use mathlib.Core.List.{List, [], _∷_, _++_}
 use Prim.Native.Nat.{ℕ, suc, _+_, _≤_, _<_}
 use native.Mathlib.Omega.{arith}
 use lib.ListN.{length, getD, take, drop}
@@ -14,7 +14,7 @@ use lib.Signed.{leZ, leZ-yes}
 use Rattle.meaning.specs.Book.{Book, Fact, Step, Window, Inside, Within, Instance, clauseOf, variableWindow}
 use Rattle.lists.specs.Answer.{Answer, ok, refused, need, andThen}
 use Rattle.lists.specs.Compare.{eqZ, eqVals, same, inside, allIn}
-use Rattle.lists.specs.Instance.{clauseNumber, clauseAt, stepAt, judgeClause, judge}
+use Rattle.lists.specs.Instance.{clauseNumber, clauseAt, stepAt, judgeClause, judge, judgeEnabled}
 use Rattle.lists.specs.Derivation.{judgeGoal, judgeLength}
 
 -- ---- answers
@@ -31,6 +31,9 @@ pub and-ok : (x y : Answer) → (andThen x y ≡ ok) ↔ ((x ≡ ok) × (y ≡ o
 unfolding andThen
 and-ok ok y = (λ e. (refl, e), λ h. h .1)
 and-ok (refused n i) y = (λ e. absurd (refused-not e), λ h. absurd (refused-not (h .0)))
+
+pub and-says : {J : Type 0} (x y : Answer) → (x ≡ ok) ↔ J → (andThen x y ≡ ok) ↔ (J × (y ≡ ok))
+and-says x y s = (λ e. let (p, q) = and-ok x y .0 e in (s .0 p, q), λ h. and-ok x y .1 (s .1 (h .0), h .1))
 
 -- ---- comparisons
 
@@ -129,6 +132,16 @@ judge-exact b k more l i =
       ),
     )
 
+-- and its body is met
+pub enabled-exact : (b : Book) (k more : ℕ) (l : List ℤ) (i : ℕ) (met : Bool)
+    → (judgeEnabled b k more l i met ≡ ok) ↔ (Instance b (stepAt b k l) × (clauseAt b k .vars + more ≤ length l) × T met)
+unfolding judgeEnabled
+enabled-exact b k more l i met =
+    let one = judge-exact b k more l i in (
+      λ e. let (j, t) = and-ok _ _ .0 e in (one .0 j .0, one .0 j .1, need-ok _ _ _ _ .0 t .0),
+      λ h. and-ok _ _ .1 (one .1 (h .0, h .1), need-ok _ 16 i ok .1 (h .2, refl)),
+    )
+
 -- a number that names a clause is not below zero
 pub clause-number : (b : Book) (x : ℤ) → clauseNumber b x < length (b .clauses) → pos (clauseNumber b x) ≡ x
 unfolding clauseNumber
@@ -141,21 +154,6 @@ step-at b s rest i = λ j. record { clause = s .clause; vals = take-at (s .vals)
 
 pub after-step : (b : Book) (s : Step) (rest : List ℤ) → Instance b s → drop (clauseAt b (s .clause) .vars) (s .vals ++ rest) ≡ rest
 after-step b s rest i = drop-at (s .vals) rest (clauseOf b s .vars) (i .count)
-
--- lists that agree, and whose fronts have one length, agree in both parts
-pub append-same : (x y u v : List ℤ) → length x ≡ length y → x ++ u ≡ y ++ v → (x ≡ y) × (u ≡ v)
-append-same x y u v n e = (
-  sym (take-at x u (length y) n) ∙ ap (take (length y)) e ∙ take-at y v (length y) refl,
-  sym (drop-at x u (length y) n) ∙ ap (drop (length y)) e ∙ drop-at y v (length y) refl,
-)
-
-pub step-same : (b : Book) {s t : Step} (u v : List ℤ) → Instance b s → Instance b t
-    → pos (s .clause) ∷ (s .vals ++ u) ≡ pos (t .clause) ∷ (t .vals ++ v) → (s ≡ t) × (u ≡ v)
-step-same b {s} {t} u v i j e =
-    let k : s .clause ≡ t .clause = cc in
-    let n : length (s .vals) ≡ length (t .vals) = i .count ∙ ap (λ (c : ℕ). clauseAt b c .vars) k ∙ sym (j .count) in
-    let (x, r) = append-same (s .vals) (t .vals) u v n (tail-eq-of-cons-eq e) in
-    (λ h. record { clause = k h; vals = x h }, r)
 
 -- ---- the goal and the list's length
 

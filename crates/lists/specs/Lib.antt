@@ -1,11 +1,15 @@
 pub mod Answer
 pub mod Compare
 pub mod Instance
+pub mod Walker
 pub mod Derivation
 pub mod Trace
 pub mod Convert
+pub mod Enabled
+pub mod Walked
 pub mod Due
 pub mod Laws
+pub mod Runs
 pub mod Exact
 pub mod Walk
 pub mod Numbers

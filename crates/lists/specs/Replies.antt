@@ -2,26 +2,26 @@
 use mathlib.Core.Path.{_≡_, refl, ap}
 use mathlib.Core.Logic.{_↔_}
 use mathlib.Core.Bool.{Bool, true, false}
-use mathlib.Core.Option.{Option, none, some}
+use mathlib.Core.Option.{Option, none}
 use mathlib.Core.List.{List, [], _∷_, _++_}
-use Prim.Native.Nat.{ℕ, zero, suc, _+_, _≤_, _<_}
-use native.Mathlib.Nat.{not-suc-le-zero, le-refl}
+use Prim.Native.Nat.{ℕ, _≤_, _<_}
 use native.Mathlib.Omega.{arith}
-use lib.ListN.{length, take, drop, length-drop}
+use lib.ListN.{length, take, drop}
 use lib.Seq.{take-append-seam}
 use lib.Dec.{T, leb, ltb, ltb→lt, leb→le, le→leb}
 use borrow.Author.Tests.{leb-true, leb-false, le-leb, lt-leb}
 use lib.IntN.{ℤ}
-use Rattle.meaning.specs.Book.{Book, Fact, head}
+use Rattle.meaning.specs.Book.{Book, Fact}
 use Rattle.meaning.specs.Limits.{Limits}
-use Rattle.meaning.specs.State.{Control, State, write}
+use Rattle.meaning.specs.State.{Control, State}
 use Rattle.meaning.specs.Laws.{ControlLaws}
 use Rattle.lists.specs.Answer.{Answer, ok, refused, number, need, andThen}
-use Rattle.lists.specs.Instance.{clauseNumber, clauseAt, stepAt, judgeClause, judge}
-use Rattle.lists.specs.Derivation.{judgeStep, checkFrom, check, judgeGoal, judgeLength, checkDerivation}
-use Rattle.lists.specs.Trace.{size, judgeMove, walkFrom, judgeFirst, checkWalk, checkTrace}
+use Rattle.lists.specs.Instance.{judgeClause, judge, judgeEnabled}
+use Rattle.lists.specs.Derivation.{judgeStep, derivationWalk, check, judgeGoal, judgeLength, checkDerivation}
+use Rattle.lists.specs.Trace.{size, judgeMove, traceWalk, judgeFirst, checkWalk, checkTrace}
 use Rattle.lists.specs.Convert.{Reply, asTrace, asDerivation, written, toTrace, toDerivation}
 use Rattle.lists.specs.Laws.{refused-not, need-ok, and-ok}
+use Rattle.lists.specs.Walked.{walk-keeps}
 use Rattle.lists.specs.Converted.{asTrace-accepted, asDerivation-accepted}
 
 -- ---- no refusal of a check has the number 0
@@ -48,19 +48,13 @@ plain-judge : (b : Book) (k more : ℕ) (l : List ℤ) (i : ℕ) → Plain (judg
 unfolding judge judgeClause
 plain-judge b k more l i = search plain depth 10
 
+plain-enabled : (b : Book) (k more : ℕ) (l : List ℤ) (i : ℕ) (met : Bool) → Plain (judgeEnabled b k more l i met)
+unfolding judgeEnabled
+plain-enabled b k more l i met = search (plain, plain-judge)
+
 plain-step : (b : Book) (k : ℕ) (l : List ℤ) (i : ℕ) (o : Option Fact) → Plain (judgeStep b k l i o)
 unfolding judgeStep
-plain-step b k l i o = search (plain, plain-judge)
-
-plain-from : (b : Book) (f : Fact) (m i : ℕ) (o : Option Fact) (l : List ℤ) → length l ≤ m → Plain (checkFrom b f m i o l)
-unfolding checkFrom
-plain-from b f zero i o [] h = search plain
-plain-from b f zero i o (x ∷ l) h = absurd (not-suc-le-zero h)
-plain-from b f (suc m) i o [] h = search plain
-plain-from b f (suc m) i o (x ∷ l) h =
-    let k = clauseNumber b x in
-    let n = clauseAt b k .vars in
-    plain-and _ (plain-step b k l i o) (plain-from b f m (i + 1 + n) (some (head b (stepAt b k l))) (drop n l) (rw length-drop (omega arith)))
+plain-step b k l i o = plain-enabled b k 0 l i _
 
 plain-asked : (b : Book) (r : ℕ) (vals l : List ℤ) {a : Answer} → Plain a → Plain (andThen (judgeGoal b r vals) (andThen (judgeLength l) a))
 unfolding judgeGoal judgeLength
@@ -68,22 +62,12 @@ plain-asked b r vals l p = search plain depth 10
 
 pub plain-derivation : (b : Book) (r : ℕ) (vals l : List ℤ) → Plain (checkDerivation b r vals l)
 unfolding checkDerivation check
-plain-derivation b r vals l = plain-asked b r vals l (plain-from b _ (length l) 0 none l (le-refl _))
+plain-derivation b r vals l = plain-asked b r vals l (walk-keeps b (derivationWalk b _) Plain (λ i o. search plain) (λ k l i o a p. plain-and _ (plain-step b k l i o) p) (length l) 0 none l)
 
 module _ (b : Book) (C : Control) where
   plain-move : (k : ℕ) (l : List ℤ) (i : ℕ) (σ : State C) → Plain (judgeMove b C k l i σ)
   unfolding judgeMove
-  plain-move k l i σ = search (plain, plain-judge)
-
-  plain-walk : (f : Fact) (m i : ℕ) (σ : State C) (l : List ℤ) → length l ≤ m → Plain (walkFrom b C f m i σ l)
-  unfolding walkFrom
-  plain-walk f zero i σ [] h = search plain
-  plain-walk f zero i σ (x ∷ l) h = absurd (not-suc-le-zero h)
-  plain-walk f (suc m) i σ [] h = search plain
-  plain-walk f (suc m) i σ (x ∷ l) h =
-      let k = clauseNumber b x in
-      let n = clauseAt b k .vars in
-      plain-and _ (plain-move k l i σ) (plain-walk f m (i + 1 + n + size b C) (write C (head b (stepAt b k l)) σ) (drop (size b C) (drop n l)) (simp length-drop (omega arith)))
+  plain-move k l i σ = search (plain, plain-enabled)
 
   plain-first : (l : List ℤ) → Plain (judgeFirst b C l)
   unfolding judgeFirst
@@ -91,7 +75,8 @@ module _ (b : Book) (C : Control) where
 
   pub plain-trace : (r : ℕ) (vals l : List ℤ) → Plain (checkTrace b C r vals l)
   unfolding checkTrace checkWalk
-  plain-trace r vals l = plain-asked b r vals l (plain-and _ (plain-first l) (plain-walk _ (length l) (size b C) _ (drop (size b C) l) (rw length-drop (omega arith))))
+  plain-trace r vals l = plain-asked b r vals l
+      (plain-and _ (plain-first l) (walk-keeps b (traceWalk b C _) Plain (λ i σ. search plain) (λ k l i σ a p. plain-and _ (plain-move k l i σ) p) (length l) (size b C) _ (drop (size b C) l)))
 
 -- ---- writing
 

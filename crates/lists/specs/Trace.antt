@@ -2,16 +2,17 @@
 use mathlib.Core.Bool.{Bool, true, false, _&&_}
 use mathlib.Core.Option.{Option, none, some}
 use mathlib.Core.List.{List, [], _∷_, _++_}
-use Prim.Native.Nat.{ℕ, zero, suc, _+_}
+use Prim.Native.Nat.{ℕ, suc, _+_}
 use lib.ListN.{length, getD, take, drop}
 use lib.Dec.{leb}
 use lib.IntN.{ℤ, pos}
 use Rattle.meaning.specs.Book.{Book, Fact, Window, placeWindow, head, body}
 use Rattle.meaning.specs.System.{Move}
 use Rattle.meaning.specs.State.{Control, State, write, withPlaces}
-use Rattle.lists.specs.Answer.{Answer, ok, refused, need, andThen}
+use Rattle.lists.specs.Answer.{Answer, ok, need, andThen}
 use Rattle.lists.specs.Compare.{eqVals, allIn, firstOut, firstDiff}
-use Rattle.lists.specs.Instance.{clauseNumber, clauseAt, stepAt, judge}
+use Rattle.lists.specs.Instance.{clauseAt, stepAt, judgeEnabled}
+use Rattle.lists.specs.Walker.{Walker, walk}
 use Rattle.lists.specs.Derivation.{judgeGoal, judgeLength, goal}
 
 -- ---- states as numbers: the control's, then all places in relation order
@@ -72,19 +73,18 @@ module _ (b : Book) (C : Control) where
       let s = stepAt b k l in
       let n = clauseAt b k .vars in
       let due = stateNumbers (write C (head b s) σ) in
-      andThen (judge b k size l i)
-      (need (meets (body b s) σ) 16 i
-      (need (eqVals (take size (drop n l)) due) 19 (firstDiff (i + 1 + n) (drop n l) due) ok))
+      andThen (judgeEnabled b k size l i (meets (body b s) σ))
+      (need (eqVals (take size (drop n l)) due) 19 (firstDiff (i + 1 + n) (drop n l) due) ok)
 
-  -- the steps from place i on, where l is what is left and σ the state before; m is at least as large as l is long
-  unfoldable pub walkFrom : Fact → ℕ → ℕ → State C → List ℤ → Answer
-  walkFrom f zero i σ [] = need (has f σ) 17 i ok
-  walkFrom f zero i σ (x ∷ l) = refused 0 0
-  walkFrom f (suc m) i σ [] = need (has f σ) 17 i ok
-  walkFrom f (suc m) i σ (x ∷ l) =
-      let k = clauseNumber b x in
-      let n = clauseAt b k .vars in
-      andThen (judgeMove k l i σ) (walkFrom f m (i + 1 + n + size) (write C (head b (stepAt b k l)) σ) (drop size (drop n l)))
+  -- the check of the steps remembers the state before; at the end it holds the goal f
+  abbrev pub traceWalk : Fact → Walker Answer
+  traceWalk f = record {
+    Memory = State C;
+    gap = size;
+    step = λ k l i σ. andThen (judgeMove k l i σ);
+    next = λ s σ. write C (head b s) σ;
+    ended = λ i σ. need (has f σ) 17 i ok;
+  }
 
   -- the first state that a list begins with: the control as it starts, and the places that stand there
   unfoldable pub firstOf : List ℤ → State C
@@ -100,7 +100,7 @@ module _ (b : Book) (C : Control) where
       (need (allRows (placeWindow b) rows) 14 (firstOutRows (placeWindow b) width rows) ok))
 
   unfoldable pub checkWalk : Fact → List ℤ → Answer
-  checkWalk f l = andThen (judgeFirst l) (walkFrom f (length l) size (firstOf l) (drop size l))
+  checkWalk f l = andThen (judgeFirst l) (walk b (traceWalk f) (length l) size (firstOf l) (drop size l))
 
   unfoldable pub checkTrace : ℕ → List ℤ → List ℤ → Answer
   checkTrace r vals l = andThen (judgeGoal b r vals) (andThen (judgeLength l) (checkWalk (goal r vals) l))

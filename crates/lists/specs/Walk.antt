@@ -3,26 +3,27 @@ use mathlib.Core.Path.{_≡_, refl, sym, ap, ap₂, _∙_}
 use mathlib.Core.Logic.{_↔_}
 use mathlib.Core.Option.{Option, none, some}
 use mathlib.Core.List.{List, [], _∷_, _++_, append-assoc}
-use Prim.Native.Nat.{ℕ, zero, suc, _+_, _≤_}
-use native.Mathlib.Nat.{not-suc-le-zero}
+use Prim.Native.Nat.{ℕ, suc, _+_, _≤_}
 use native.Mathlib.Omega.{arith}
 use lib.ListN.{length, getD, take, drop, length-append, length-take, length-drop, take-append-drop}
 use lib.Seq.{length-take-le, take-at, drop-at, take-add, take-take}
 use lib.Dec.{T, leb→le, le→leb}
 use lib.IntN.{ℤ}
-use Rattle.meaning.specs.Book.{Book, Fact, Step, Window, Instance, placeWindow, head, body, clauseOf}
+use Rattle.meaning.specs.Book.{Book, Fact, Step, Window, Instance, placeWindow, head, body}
 use Rattle.meaning.specs.Limits.{Limits}
-use Rattle.meaning.specs.System.{Enabled, Move, Follows, final, Reaches}
+use Rattle.meaning.specs.System.{Enabled, Move, Follows, final, Reaches, moves, steps}
 use Rattle.meaning.specs.State.{Control, State, Shaped, Initial, Has, write, withPlaces}
 use Rattle.meaning.specs.Wf.{limits-wf, head-full, head-in-window}
 use Rattle.meaning.specs.Rows.{shaped-set}
 use Rattle.meaning.specs.Laws.{ControlLaws}
+use Rattle.meaning.specs.Conversions.{follows-moves}
 use Rattle.lists.specs.Answer.{ok}
 use Rattle.lists.specs.Compare.{eqVals, allIn}
-use Rattle.lists.specs.Instance.{clauseNumber, clauseAt, stepAt}
+use Rattle.lists.specs.Instance.{clauseAt, stepAt}
 use Rattle.lists.specs.Derivation.{goal}
-use Rattle.lists.specs.Trace.{flat, sum, cut, allRows, stateNumbers, width, size, moveNumbers, traceNumbers, has, meets, judgeMove, walkFrom, firstOf, judgeFirst, checkWalk, checkTrace}
-use Rattle.lists.specs.Laws.{refused-not, need-ok, and-ok, and-T, eqVals-exact, allIn-exact, judge-exact, clause-number, step-at, after-step, Asked, asked-exact}
+use Rattle.lists.specs.Trace.{flat, sum, cut, allRows, stateNumbers, width, size, moveNumbers, traceNumbers, has, meets, judgeMove, traceWalk, firstOf, judgeFirst, checkWalk, checkTrace}
+use Rattle.lists.specs.Laws.{need-ok, and-ok, and-says, and-T, eqVals-exact, allIn-exact, enabled-exact, Asked, asked-exact}
+use Rattle.lists.specs.Runs.{Judged, Sense, written, Runs, accepts-only, accepts-every}
 
 -- ---- rows as numbers
 
@@ -70,47 +71,44 @@ module _ (b : Book) (C : Control) where
   meets-exact none σ = (λ t. t, λ t. t)
   meets-exact (some f) σ = has-exact f σ
 
-  -- a step that is judged at the front of a list: an enabled instance, then the state with its head put in
-  pub record Judged (k : ℕ) (l : List ℤ) (σ : State C) : Type 0 where
-    pub one : Instance b (stepAt b k l)
-    pub long : clauseAt b k .vars + size b C ≤ length l
-    pub met : Enabled (withPlaces b C) (body b (stepAt b k l)) σ
-    pub next : take (size b C) (drop (clauseAt b k .vars) l) ≡ stateNumbers b C (write C (head b (stepAt b k l)) σ)
-
-  pub move-exact : (k : ℕ) (l : List ℤ) (i : ℕ) (σ : State C) → (judgeMove b C k l i σ ≡ ok) ↔ Judged k l σ
+  pub move-exact : (k : ℕ) (l : List ℤ) (i : ℕ) (σ : State C) → (judgeMove b C k l i σ ≡ ok)
+      ↔ Judged b (size b C) k l (λ p. Enabled (withPlaces b C) p σ) (λ s. stateNumbers b C (write C (head b s) σ))
   unfolding judgeMove
   move-exact k l i σ =
       let s = stepAt b k l in
-      let inst = judge-exact b k (size b C) l i in
-      let enabled = meets-exact (body b s) σ in
+      let one = enabled-exact b k (size b C) l i (meets b C (body b s) σ) in
+      let met = meets-exact (body b s) σ in
       let state = eqVals-exact (take (size b C) (drop (clauseAt b k .vars) l)) (stateNumbers b C (write C (head b s) σ)) in (
         λ e. let (j, e₁) = and-ok _ _ .0 e in
-            let (t₁, e₂) = need-ok _ _ _ _ .0 e₁ in
-            let (t₂, e₃) = need-ok _ _ _ _ .0 e₂ in
-            record { one = inst .0 j .0; long = inst .0 j .1; met = enabled .0 t₁; next = state .0 t₂ },
-        λ h. and-ok _ _ .1 (inst .1 (h .one, h .long), need-ok _ 16 i _ .1 (enabled .1 (h .met), need-ok _ 19 _ ok .1 (state .1 (h .next), refl))),
+            let (x, n, t) = one .0 j in
+            record { one = x; long = n; met = met .0 t; next = state .0 (need-ok _ _ _ _ .0 e₁ .0) },
+        λ h. and-ok _ _ .1 (one .1 (h .one, h .long, met .1 (h .met)), need-ok _ 19 _ ok .1 (state .1 (h .next), refl)),
       )
 
-  -- the steps accept only traces
-  only : (f : Fact) (m i : ℕ) (σ : State C) (l : List ℤ) → walkFrom b C f m i σ l ≡ ok
-      → (ms : List (Move b (withPlaces b C))) × (moveNumbers b C ms ≡ l) × Follows b (withPlaces b C) σ ms × Has C f (final b (withPlaces b C) σ ms)
-  unfolding walkFrom moveNumbers
-  only f zero i σ [] e = ([], refl, tt, has-exact f σ .0 (need-ok _ _ _ _ .0 e .0))
-  only f zero i σ (x ∷ l) e = absurd (refused-not e)
-  only f (suc m) i σ [] e = ([], refl, tt, has-exact f σ .0 (need-ok _ _ _ _ .0 e .0))
-  only f (suc m) i σ (x ∷ l) e =
-      let k = clauseNumber b x in
-      let n = clauseAt b k .vars in
-      let s = stepAt b k l in
-      let σ′ = write C (head b s) σ in
-      let (j, more) = and-ok _ _ .0 e in
-      let h = move-exact k l i σ .0 j in
-      let (ms, p, c, t) = only f m (i + 1 + n + size b C) σ′ (drop (size b C) (drop n l)) more in (
-        record { step = s; next = σ′ } ∷ ms,
-        rw (p, ← (h .next), take-append-drop (size b C) (drop n l), take-append-drop n l, clause-number b x (h .one .there)),
-        (h .one, h .met, refl, c),
-        t,
-      )
+  module _ (f : Fact) where
+    -- a step is enabled, the last state holds the goal, and the next state stands in a gap
+    abbrev pub traceSense : Sense b (traceWalk b C f)
+    traceSense = record {
+      Met = Enabled (withPlaces b C);
+      Done = Has C f;
+      shown = stateNumbers b C;
+      step-says = λ k l i σ a. and-says (judgeMove b C k l i σ) a (move-exact k l i σ);
+      end-says = λ i σ. (λ e. has-exact f σ .0 (need-ok _ _ _ _ .0 e .0), λ t. need-ok _ 17 i ok .1 (has-exact f σ .1 t, refl));
+    }
+
+    moves-written : (σ : State C) (d : List Step) → written b (traceWalk b C f) traceSense σ d ≡ moveNumbers b C (moves b (withPlaces b C) σ d)
+    unfolding moveNumbers
+    moves-written σ [] = refl
+    moves-written σ (s ∷ d) = rw (moves-written (write C (head b s) σ) d)
+
+    pub trace-written : (σ : State C) (ms : List (Move b (withPlaces b C))) → Follows b (withPlaces b C) σ ms
+        → written b (traceWalk b C f) traceSense σ (steps b (withPlaces b C) ms) ≡ moveNumbers b C ms
+    trace-written σ ms c = moves-written σ (steps b (withPlaces b C) ms) ∙ ap (moveNumbers b C) (sym (follows-moves b (withPlaces b C) σ ms c))
+
+    runs-follow : (σ : State C) (d : List Step) → Runs b (traceWalk b C f) traceSense σ d
+        → Follows b (withPlaces b C) σ (moves b (withPlaces b C) σ d) × Has C f (final b (withPlaces b C) σ (moves b (withPlaces b C) σ d))
+    runs-follow σ [] r = (tt, r)
+    runs-follow σ (s ∷ d) r = let (c, t) = runs-follow (write C (head b s) σ) d (r .3) in ((r .0, r .1, refl, c), t)
 
   -- a list that is accepted as a trace that reaches the goal r vals
   pub record Trace (r : ℕ) (vals l : List ℤ) : Type 0 where
@@ -136,11 +134,6 @@ module _ (b : Book) (C : Control) where
           fit = K .fit-next (length (b .arities)) (σ .ctl) (head b s .rel) (g .fit);
           shaped = shaped-set (placeWindow b) (b .arities) (σ .rows) (g .shaped) (head b s .rel) (head b s .vals) (head-full w s i) (head-in-window w s i);
         }
-
-    -- so has every state of a trace
-    pub final-good : Limits b → {σ : State C} (ms : List (Move b (withPlaces b C))) → Good σ → Follows b (withPlaces b C) σ ms → Good (final b (withPlaces b C) σ ms)
-    final-good l [] g h = g
-    final-good l (m ∷ ms) g h = final-good l ms (rw (h .2) (write-good l g (h .0))) (h .3)
 
     pub state-length : (σ : State C) → Good σ → length (stateNumbers b C σ) ≡ size b C
     unfolding stateNumbers size
@@ -186,32 +179,12 @@ module _ (b : Book) (C : Control) where
         )
 
     module _ (L : Limits b) where
-      -- and the steps accept every trace
-      every : (f : Fact) (n i : ℕ) (σ : State C) (ms : List (Move b (withPlaces b C))) → length (moveNumbers b C ms) ≤ n → Good σ
-          → Follows b (withPlaces b C) σ ms → Has C f (final b (withPlaces b C) σ ms) → walkFrom b C f n i σ (moveNumbers b C ms) ≡ ok
-      unfolding walkFrom moveNumbers clauseNumber
-      every f zero i σ [] h g c t = need-ok _ 17 i ok .1 (has-exact f σ .1 t, refl)
-      every f zero i σ (m ∷ ms) h g c t = absurd (not-suc-le-zero h)
-      every f (suc n) i σ [] h g c t = need-ok _ 17 i ok .1 (has-exact f σ .1 t, refl)
-      every f (suc n) i σ (m ∷ ms) h g c t =
-          let s = m .step in
-          let v = clauseOf b s .vars in
-          let state : List ℤ = stateNumbers b C (m .next) in
-          let rest : List ℤ = moveNumbers b C ms in
+      pub trace-runs : (f : Fact) (σ : State C) (ms : List (Move b (withPlaces b C))) → Good σ → Follows b (withPlaces b C) σ ms → Has C f (final b (withPlaces b C) σ ms)
+          → Runs b (traceWalk b C f) (traceSense f) σ (steps b (withPlaces b C) ms)
+      trace-runs f σ [] g c t = t
+      trace-runs f σ (m ∷ ms) g c t =
           let g′ : Good (m .next) = rw (c .2) (write-good L g (c .0)) in
-          let z : length state ≡ size b C = state-length (m .next) g′ in
-          let here : stepAt b (s .clause) (s .vals ++ (state ++ rest)) ≡ s = step-at b s (state ++ rest) (c .0) in
-          let after : drop v (s .vals ++ (state ++ rest)) ≡ state ++ rest = after-step b s (state ++ rest) (c .0) in
-          let parts : length (s .vals ++ (state ++ rest)) ≡ v + (size b C + length rest) = simp length-append (omega (arith, c .0 .count)) in
-          and-ok _ _ .1 (
-            move-exact (s .clause) (s .vals ++ (state ++ rest)) i σ .1 (record {
-              one = rw here (c .0);
-              long = omega arith;
-              met = rw here (c .1);
-              next = rw (here, after) (take-at state rest (size b C) z ∙ ap (stateNumbers b C) (c .2));
-            }),
-            rw (here, after, drop-at state rest (size b C) z, ← (c .2)) (every f n (i + 1 + v + size b C) (m .next) ms (omega arith) g′ (c .3) t),
-          )
+          (c .0, c .1, rw (← (c .2)) (state-length (m .next) g′), rw (← (c .2)) (trace-runs f (m .next) ms g′ (c .3) t))
 
       pub walk-exact : (f : Fact) (l : List ℤ) → (checkWalk b C f l ≡ ok)
           ↔ ((σ : State C) × (ms : List (Move b (withPlaces b C))) × (traceNumbers b C σ ms ≡ l) × Reaches b (withPlaces b C) σ ms f)
@@ -219,8 +192,10 @@ module _ (b : Book) (C : Control) where
       walk-exact f l = (
         λ e. let (j, more) = and-ok _ _ .0 e in
             let (i, p) = first-exact l .0 j in
-            let (ms, q, c, t) = only f (length l) (size b C) (firstOf b C l) (drop (size b C) l) more in
-            (firstOf b C l, ms, rw (q, ← p, take-append-drop), record { init = i; follows = c; holds = t }),
+            let σ = firstOf b C l in
+            let (d, q, r) = accepts-only b (traceWalk b C f) (traceSense f) (length l) (size b C) σ (drop (size b C) l) (rw length-drop (omega arith)) more in
+            let (c, t) = runs-follow f σ d r in
+            (σ, moves b (withPlaces b C) σ d, rw (← (moves-written f σ d), q, ← p, take-append-drop), record { init = i; follows = c; holds = t }),
         λ h. rw (h .2) at (accepted (h .0) (h .1) (h .3)),
       )
         where
@@ -231,9 +206,11 @@ module _ (b : Book) (C : Control) where
               let here : firstOf b C (state ++ rest) ≡ σ = first-of σ rest (t .init) in
               let g : Good σ = initial-good (t .init) in
               let z : length state ≡ size b C = state-length σ g in
+              let w = trace-written f σ ms (t .follows) in
               and-ok _ _ .1 (
                 first-exact (state ++ rest) .1 (rw here (t .init), rw here (take-at state rest (size b C) z)),
-                rw (here, drop-at state rest (size b C) z) (every f (length (state ++ rest)) (size b C) σ ms (rw length-append (omega arith)) g (t .follows) (t .holds)),
+                rw (here, drop-at state rest (size b C) z, ← w)
+                    (accepts-every b (traceWalk b C f) (traceSense f) _ (size b C) σ (steps b (withPlaces b C) ms) (rw (w, length-append) (omega arith)) (trace-runs f σ ms g (t .follows) (t .holds))),
               )
 
       -- ---- with the goal and the list's length
