@@ -24,6 +24,9 @@ use Rattle.book.specs.declared.Reading.the-variants.{Good}
 use Rattle.book.specs.Read.{read}
 use Rattle.book.specs.Meaning.{bookIn}
 use Rattle.book.specs.Joined.{count-is}
+use Rattle.cursor.specs.Meaning.{treeIn}
+use Rattle.cursor.specs.Sound.{IsTree}
+use Rattle.table.specs.Table.{Tabled}
 use Rattle.instance.specs.Values.{numberOr, numberIn, windowOf, valuesAt, Valued}
 
 -- ---- two lists of values, compared from number j on
@@ -198,3 +201,51 @@ module _ (s : List ℕ) (h : Header) (good : read s ≡ Good h) (l : List ℤ) (
       judge (bookIn s h) (numberIn s h l i) more (drop (i + 1) l) i ≡ judgeClause (bookIn s h) (clauseAt (bookIn s h) k) more (drop (i + 1) l) i
   unfolding judge need
   judge-some more a = rw (number-is, lt-ltb k (length (bookIn s h .clauses)) (omega (arith, count-is s h good)))
+
+-- ---- judging, as the code does it: v is the clause's number of variables
+
+module _ {s : List ℕ} {h : Header} {t : List (List ℕ)} (w : Tabled s h t) {k : ℕ} (below : k < h .count) (l : List ℤ) (i more : ℕ) {v : ℕ} (e : v ≡ getD (getD t k []) 0 0) (there : i < length l) where
+  abbrev theClause : Clause
+  theClause = clauseAt (bookIn s h) k
+
+  abbrev answer : ℕ
+  answer = number (judgeClause (bookIn s h) theClause more (drop (i + 1) l) i)
+
+  vars : theClause .vars ≡ v
+  vars = w .row k below .vars ∙ sym e
+
+  left : length (drop (i + 1) l) ≡ length l - (i + 1)
+  left = length-drop (i + 1) l
+
+  pub code-few : v ≤ 16
+  code-few = omega (arith, w .row k below .few)
+
+  pub code-short : length l - (i + 1) < v → 13 ≡ answer
+  code-short a = sym (judged-short (bookIn s h) theClause more (drop (i + 1) l) i (omega (arith, vars, left)))
+
+  module _ (a : v ≤ length l - (i + 1)) where
+    pub code-less : length l - (i + 1) - v < more → 13 ≡ answer
+    code-less c = sym (judged-short (bookIn s h) theClause more (drop (i + 1) l) i (omega (arith, vars, left)))
+
+    module _ (c : more ≤ length l - (i + 1) - v) {out : ℕ} (q : out ≡ firstOut (variableWindow (bookIn s h) theClause) (i + 1) (take v (drop (i + 1) l))) where
+      room : theClause .vars + more ≤ length (drop (i + 1) l)
+      room = omega (arith, vars, left)
+
+      at-vars : out ≡ firstOut (variableWindow (bookIn s h) theClause) (i + 1) (take (theClause .vars) (drop (i + 1) l))
+      at-vars = q ∙ ap (λ (n : ℕ). firstOut (variableWindow (bookIn s h) theClause) (i + 1) (take n (drop (i + 1) l))) (sym vars)
+
+      pub code-out : out < i + 1 + v → 14 ≡ answer
+      code-out d = sym (judged-out (bookIn s h) theClause more (drop (i + 1) l) i room at-vars (omega (arith, vars)))
+
+      module _ (d : i + 1 + v ≤ out) {p : ℕ} (f : p ≡ getD (getD t k []) 7 0) {r : Bool} (x : r ≡ holds (take v (drop (i + 1) l)) (treeIn s v p)) where
+        at-rule : r ≡ holds (take (theClause .vars) (drop (i + 1) l)) (theClause .rule)
+        at-rule = x ∙ rw (w .row k below .rule, w .row k below .vars, ← e, ← f)
+
+        pub code-false : r ≡ false → 15 ≡ answer
+        code-false z = sym (judged-false (bookIn s h) theClause more (drop (i + 1) l) i room at-vars (omega (arith, vars)) at-rule z)
+
+        pub code-true : r ≡ true → 0 ≡ answer
+        code-true z = sym (judged-true (bookIn s h) theClause more (drop (i + 1) l) i room at-vars (omega (arith, vars)) at-rule z)
+
+  pub code-tree : {p : ℕ} → p ≡ getD (getD t k []) 7 0 → IsTree s v p
+  code-tree f = rw (e, f) (w .row k below .tree)

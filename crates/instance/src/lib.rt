@@ -66,7 +66,12 @@ pub fn same_values(
 {
     let mut j = 0;
     while j < n {
-        if same_at(list, spot(book, p + j, from), list, spot(book, q + j, since)) {
+        if same_at(
+            list,
+            spot(book, p + j, from),
+            list,
+            spot(book, q + j, since),
+        ) {
             j += 1;
         } else {
             return false;
@@ -148,7 +153,13 @@ pub fn judged(
     if first_out(book, h, k, list, from, v) < from + v {
         return 14;
     }
-    if truth::truth(book, table::cell(table, k, table::RULE), v as u8, list, from) {
+    if truth::truth(
+        book,
+        table::cell(table, k, table::RULE),
+        v as u8,
+        list,
+        from,
+    ) {
         0
     } else {
         15

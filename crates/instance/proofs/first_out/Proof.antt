@@ -25,8 +25,7 @@ loop-holds c = (omega arith, c .before .pre, inside-none _ _)
 loop-again : tie.Need-loop-again Inv-loop μ-loop
 loop-again c =
     let t = c .before .before .before .before .loop in
-    let a = c .before .before .before .before .before .before .args in
-    (
+    let a = c .before .before .before .before .before .before .args in (
       omega arith,
       t .inv .1,
       inside-more _ _ (t .j) (t .inv .2) (window-inside (a .list .now) (a .from) (a .v) (t .j) _ _ (omega arith) (c .before .before .variable-window .ensures) (c .before .inside-at .ensures) (c .if1 .taken)),
