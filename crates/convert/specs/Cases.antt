@@ -19,10 +19,11 @@ use Rattle.book.specs.Meaning as books
 use Rattle.book.specs.Answer as answers
 use Rattle.lists.specs.Answer.{need, andThen}
 use Rattle.lists.specs.Compare.{eqZ, eqVals, same, inside, allIn, firstOut, firstDiff}
-use Rattle.lists.specs.Instance.{clauseNumber, judgeClause, judge}
-use Rattle.lists.specs.Derivation.{numbers, judgeStep, checkFrom, check, judgeGoal, judgeLength, checkDerivation}
-use Rattle.lists.specs.Trace.{flat, sum, cut, allRows, firstOutRows, stateNumbers, size, moveNumbers, traceNumbers, has, meets, judgeMove, walkFrom, firstOf, judgeFirst, checkWalk, checkTrace}
-use Rattle.lists.specs.Convert.{Reply, stepsFrom, derivationSteps, traceSteps, asTrace, asDerivation, written, toTrace, toDerivation}
+use Rattle.lists.specs.Instance.{clauseNumber, judgeClause, judge, judgeEnabled}
+use Rattle.lists.specs.Walker.{walk}
+use Rattle.lists.specs.Derivation.{numbers, judgeStep, check, judgeGoal, judgeLength, checkDerivation}
+use Rattle.lists.specs.Trace.{flat, sum, cut, allRows, firstOutRows, stateNumbers, size, moveNumbers, traceNumbers, has, meets, judgeMove, firstOf, judgeFirst, checkWalk, checkTrace}
+use Rattle.lists.specs.Convert.{Reply, derivationSteps, traceSteps, asTrace, asDerivation, written, toTrace, toDerivation}
 use Rattle.book.specs.Example.{bookB}
 use Rattle.facts.specs.Example.{listD, listT}
 use Rattle.convert.specs.Reply.{replyOf}
@@ -47,5 +48,5 @@ pub cases : (over listD (room 33) ≡ reply 0 31 (listT ++ room 2))
     × (return listT (room 14) ≡ reply 0 13 (listD ++ room 1))
     × (return listT (room 12) ≡ reply 9 13 (room 12))
     × (return (take 30 listT) (room 13) ≡ reply 13 26 (room 13))
-unfolding plus is0 leaves holds placeWindow variableWindow head body u16At u32At i16At i32At pick kinds valueThen byteThen numberThen stepThen nodeThen byteAt belowAt relationAt variableAt skipAt numberAt kindAt sumAt remainsAt nodeAt follow constraintAt argumentsAt factAt bodyAt clauseThen partsAt clauseAt coefficientsAt sumOf then grow treeAt atomIn bodyIn treeOf treeIn clauseIn clauseOr sized headed trailer readingThen topArity arityAt aritiesAt recordAt clausesAt read entryAt upTo bookIn books.clauseNumber answers.answer answers.told need andThen eqZ eqVals inside allIn firstOut firstDiff clauseNumber judgeClause judge judgeGoal judgeLength flat sum cut allRows firstOutRows stateNumbers size has meets judgeMove walkFrom firstOf judgeFirst checkWalk checkTrace numbers judgeStep checkFrom check checkDerivation same moveNumbers traceNumbers back lastWriters stepsFrom derivationSteps traceSteps asTrace asDerivation written toTrace toDerivation replyOf
+unfolding plus is0 leaves holds placeWindow variableWindow head body u16At u32At i16At i32At pick kinds valueThen byteThen numberThen stepThen nodeThen byteAt belowAt relationAt variableAt skipAt numberAt kindAt sumAt remainsAt nodeAt follow constraintAt argumentsAt factAt bodyAt clauseThen partsAt clauseAt coefficientsAt sumOf then grow treeAt atomIn bodyIn treeOf treeIn clauseIn clauseOr sized headed trailer readingThen topArity arityAt aritiesAt recordAt clausesAt read entryAt upTo bookIn books.clauseNumber answers.answer answers.told need andThen eqZ eqVals inside allIn firstOut firstDiff clauseNumber judgeClause judge judgeEnabled walk judgeGoal judgeLength flat sum cut allRows firstOutRows stateNumbers size has meets judgeMove firstOf judgeFirst checkWalk checkTrace numbers judgeStep check checkDerivation same moveNumbers traceNumbers back lastWriters derivationSteps traceSteps asTrace asDerivation written toTrace toDerivation replyOf
 cases = (refl, refl, refl, refl, refl)

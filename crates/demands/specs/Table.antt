@@ -22,10 +22,11 @@ use Rattle.book.specs.Answer as books
 use Rattle.lists.specs.Answer as lists
 use Rattle.lists.specs.Answer.{need, andThen}
 use Rattle.lists.specs.Compare.{eqZ, eqVals, same, inside, allIn, firstOut, firstDiff}
-use Rattle.lists.specs.Instance.{clauseNumber, judgeClause, judge}
-use Rattle.lists.specs.Derivation.{judgeStep, checkFrom, check, judgeGoal, judgeLength, checkDerivation}
-use Rattle.lists.specs.Trace.{flat, sum, cut, allRows, firstOutRows, stateNumbers, size, moveNumbers, traceNumbers, has, meets, judgeMove, walkFrom, firstOf, judgeFirst, checkWalk, checkTrace}
-use Rattle.lists.specs.Convert.{Reply, stepsFrom, derivationSteps, asTrace, written, toTrace}
+use Rattle.lists.specs.Instance.{clauseNumber, judgeClause, judge, judgeEnabled}
+use Rattle.lists.specs.Walker as walkers
+use Rattle.lists.specs.Derivation.{judgeStep, check, judgeGoal, judgeLength, checkDerivation}
+use Rattle.lists.specs.Trace.{flat, sum, cut, allRows, firstOutRows, stateNumbers, size, moveNumbers, traceNumbers, has, meets, judgeMove, firstOf, judgeFirst, checkWalk, checkTrace}
+use Rattle.lists.specs.Convert.{Reply, derivationSteps, asTrace, written, toTrace}
 use Rattle.facts.specs.Example.{listD, listT}
 use Rattle.facts.specs.Answer.{afterBook, onBook}
 use Rattle.derivation.specs.Answer as derivations
@@ -111,5 +112,5 @@ pub table :
     -- Remainder with d = 3, r = 2: true of 5, false of −1.
     × (remainder (pos 5) ≡ true)
     × (remainder (negsuc 0) ≡ false)
-unfolding flatMap u16At u32At i16At i32At plus is0 leaves holds placeWindow variableWindow head body pick kinds valueThen byteThen numberThen stepThen nodeThen byteAt belowAt relationAt variableAt skipAt numberAt kindAt sumAt remainsAt nodeAt follow constraintAt argumentsAt factAt bodyAt clauseThen partsAt clauseAt coefficientsAt sumOf then grow treeAt atomIn bodyIn treeOf treeIn clauseIn clauseOr sized headed trailer readingThen topArity arityAt aritiesAt recordAt clausesAt read entryAt upTo bookIn held.clauseNumber books.answer books.told need andThen eqZ eqVals same inside allIn firstOut firstDiff clauseNumber judgeClause judge judgeStep checkFrom check judgeGoal judgeLength checkDerivation flat sum cut allRows firstOutRows stateNumbers size moveNumbers traceNumbers has meets judgeMove walkFrom firstOf judgeFirst checkWalk checkTrace stepsFrom derivationSteps asTrace written toTrace afterBook onBook derivations.answer traces.answer replyOf models.partsAt numberIn inModel ruleThen modelIn natural width upFrom assignments count rank triesFrom walk walks.sum total position satisfies met breaks find outcome weighed judged examine inBook modelAnswer
+unfolding flatMap u16At u32At i16At i32At plus is0 leaves holds placeWindow variableWindow head body pick kinds valueThen byteThen numberThen stepThen nodeThen byteAt belowAt relationAt variableAt skipAt numberAt kindAt sumAt remainsAt nodeAt follow constraintAt argumentsAt factAt bodyAt clauseThen partsAt clauseAt coefficientsAt sumOf then grow treeAt atomIn bodyIn treeOf treeIn clauseIn clauseOr sized headed trailer readingThen topArity arityAt aritiesAt recordAt clausesAt read entryAt upTo bookIn held.clauseNumber books.answer books.told need andThen eqZ eqVals same inside allIn firstOut firstDiff clauseNumber judgeClause judge judgeEnabled walkers.walk judgeStep check judgeGoal judgeLength checkDerivation flat sum cut allRows firstOutRows stateNumbers size moveNumbers traceNumbers has meets judgeMove firstOf judgeFirst checkWalk checkTrace derivationSteps asTrace written toTrace afterBook onBook derivations.answer traces.answer replyOf models.partsAt numberIn inModel ruleThen modelIn natural width upFrom assignments count rank triesFrom walk walks.sum total position satisfies met breaks find outcome weighed judged examine inBook modelAnswer
 table = (refl, refl, refl, refl, refl, refl, refl, refl, refl, refl, refl, refl, refl, refl, refl, refl, refl, refl, refl)

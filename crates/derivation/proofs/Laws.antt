@@ -10,7 +10,7 @@ use lib.IntN.{ℤ}
 use Rattle.meaning.specs.Book.{Book, Fact, body, head}
 use Rattle.lists.specs.Answer.{need, andThen}
 use Rattle.lists.specs.Compare.{same}
-use Rattle.lists.specs.Instance.{stepAt}
+use Rattle.lists.specs.Instance.{stepAt, judgeEnabled}
 use Rattle.lists.specs.Derivation.{judgeStep, check}
 use Rattle.lists.specs.Due.{due, due-all, due-none, due-more}
 use Rattle.cursor.specs.declared.Refusal.{Refusal}
@@ -41,7 +41,7 @@ use Rattle.derivation.specs.Step.{factAt, ends, Leads, Steps}
 
 module _ (s : List ℕ) (h : Header) (l : List ℤ) (i : ℕ) (last : Place) {y : Instance} where
   pub step-stop : {g : Refusal} (x : Stepped) → Judged s h l i 0 y → y ≡ instances.Refused g → x ≡ steps.Refused g → Steps s h l i (factAt s h l last) x
-  unfolding Steps judgeStep andThen
+  unfolding Steps judgeStep judgeEnabled andThen
   step-stop {g} x w q e = rw (e, stopped s h l i 0 y g w q)
 
 module _ (s : List ℕ) (h : Header) (l : List ℤ) (i : ℕ) (last : Place) (c : Clause) {a : Place} {r : Bool} where
@@ -52,12 +52,12 @@ module _ (s : List ℕ) (h : Header) (l : List ℤ) (i : ℕ) (last : Place) (c 
   module _ {y : Instance} where
     pub step-unmet : (x : Stepped) → Judged s h l i 0 y → y ≡ instances.Good c → a ≡ bodyPlace c (i + 1) →
         r ≡ same (factAt s h l a) (factAt s h l last) → r ≡ false → x ≡ steps.Refused (refuse 16 i) → Steps s h l i (factAt s h l last) x
-    unfolding Steps judgeStep andThen need
+    unfolding Steps judgeStep judgeEnabled andThen need
     step-unmet x w q z p f e = let v = stands s h l i 0 y c w q in rw (e, v .judged, met v z p, f)
 
     pub step-head : (x : Stepped) {b : Place} → read s ≡ readings.Good h → Judged s h l i 0 y → y ≡ instances.Good c → a ≡ bodyPlace c (i + 1) →
         r ≡ same (factAt s h l a) (factAt s h l last) → r ≡ true → b ≡ headPlace c (i + 1) → x ≡ steps.Head b → Steps s h l i (factAt s h l last) x
-    unfolding Steps judgeStep andThen need
+    unfolding Steps judgeStep judgeEnabled andThen need
     step-head x good w q z p t u e =
         let v = stands s h l i 0 y c w q in
         let k = read-trailed s h good in

@@ -10,19 +10,19 @@ use Prim.Native.Nat.{ℕ, zero, suc, _+_, _≤_, _<_}
 use native.Mathlib.Numerals.{add-one}
 use native.Mathlib.Decide.{ℕ-discrete, decLt}
 use native.Mathlib.Omega.{arith}
-use lib.ListN.{length, take, drop, length-append, length-take, length-drop}
+use lib.ListN.{length, take, drop, length-append, length-take}
 use borrow.Author.Tests.{eq-eqb, ne-eqb}
 use lib.IntN.{ℤ, pos}
-use Rattle.meaning.specs.Book.{Book, Atom, Fact, Step, Instance, head, body, atBody, clauseOf}
+use Rattle.meaning.specs.Book.{Book, Atom, Step, Instance, head, body, atBody, clauseOf}
 use Rattle.meaning.specs.System.{before, back, lastWriters}
-use Rattle.meaning.specs.State.{Control, State}
+use Rattle.meaning.specs.State.{Control}
 use Rattle.lists.specs.Answer.{ok}
 use Rattle.lists.specs.Derivation.{numbers, goal}
 use Rattle.lists.specs.Trace.{size, traceWalk, firstOf, checkWalk, checkTrace}
 use Rattle.lists.specs.Convert.{traceSteps, asDerivation}
 use Rattle.lists.specs.Laws.{and-ok, asked-exact}
 use Rattle.lists.specs.Walked.{clauseHere, stepHere, after, start, start-next}
-use Rattle.lists.specs.Due.{walk-due-all, trace-steps-due}
+use Rattle.lists.specs.Due.{walkDue, walk-due-all, trace-steps-due}
 use Rattle.lists.specs.Runs.{step-in-walk}
 use Rattle.lists.specs.Walk.{traceSense}
 use Rattle.lists.specs.Places.{steps-taken, steps-all}
@@ -125,7 +125,7 @@ module _ (b : Book) (C : Control) (l : List ℤ) where
   -- each step is an instance and stands there in full, with its next state
   pub step-in-trace : (r : ℕ) (vals : List ℤ) → checkTrace b C r vals l ≡ ok → (j : ℕ) → traceStart j < length l
       → Instance b (stepHere b l (traceStart j)) × (traceStart (j + 1) ≤ length l)
-  unfolding checkTrace
+  unfolding checkTrace walkDue
   step-in-trace r vals e =
       let f = goal r vals in
       let w = rw (walk-due-all b C f l) at (asked-exact b r vals l (checkWalk b C f l) .0 e .1) in

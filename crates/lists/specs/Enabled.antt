@@ -53,20 +53,19 @@ module _ (b : Book) (k : ℕ) (l : List ℤ) (i : ℕ) where
   unfolding refusalPlace
   refusal-here n h = rw (ne-eqb n 14 h, placed)
 
-  module _ (more : ℕ) (met : Bool) where
-    six : let n = number (judgeEnabled b k more l i met) in
-        (judgeEnabled b k more l i met ≡ settled i outside n) × ((n ≡ 0) ⊎ ((12 ≤ n) × (n ≤ 16)))
-    unfolding judgeEnabled judge judgeClause
-    six = tests-settled i _ _ _ _ _ met
+module _ (b : Book) (k more : ℕ) (l : List ℤ) (i : ℕ) (met : Bool) where
+  six : let n = number (judgeEnabled b k more l i met) in (judgeEnabled b k more l i met ≡ settled i (outside b k l i) n) × ((n ≡ 0) ⊎ ((12 ≤ n) × (n ≤ 16)))
+  unfolding judgeEnabled judge judgeClause
+  six = tests-settled i _ _ _ _ _ met
 
-    -- it is 0 or one of 12 to 16
-    pub enabled-number : let n = number (judgeEnabled b k more l i met) in (n ≡ 0) ⊎ ((12 ≤ n) × (n ≤ 16))
-    enabled-number = six .1
+  -- it is 0 or one of 12 to 16
+  pub enabled-number : let n = number (judgeEnabled b k more l i met) in (n ≡ 0) ⊎ ((12 ≤ n) × (n ≤ 16))
+  enabled-number = six .1
 
-    pub enabled-zero : number (judgeEnabled b k more l i met) ≡ 0 → judgeEnabled b k more l i met ≡ ok
-    enabled-zero e = rw e at (six .0)
+  pub enabled-zero : number (judgeEnabled b k more l i met) ≡ 0 → judgeEnabled b k more l i met ≡ ok
+  enabled-zero e = rw e at (six .0)
 
-    pub enabled-refused : (n : ℕ) → number (judgeEnabled b k more l i met) ≡ n → n ≢ 0 → judgeEnabled b k more l i met ≡ refused n (refusalPlace n)
-    unfolding refusalPlace
-    enabled-refused zero e h = absurd (h refl)
-    enabled-refused (suc n) e h = rw e at (six .0)
+  pub enabled-refused : (n : ℕ) → number (judgeEnabled b k more l i met) ≡ n → n ≢ 0 → judgeEnabled b k more l i met ≡ refused n (refusalPlace b k l i n)
+  unfolding refusalPlace
+  enabled-refused zero e h = absurd (h refl)
+  enabled-refused (suc n) e h = rw e at (six .0)

@@ -1,5 +1,5 @@
 -- Judging one step, which a derivation and a trace share: refusals 12 to 16.
-use mathlib.Core.Bool.{Bool, true, false}
+use mathlib.Core.Bool.{Bool}
 use mathlib.Core.List.{List}
 use Prim.Native.Nat.{ℕ, _+_}
 use lib.ListN.{length, getD, take}
@@ -33,6 +33,6 @@ judgeClause b c more l i =
 unfoldable pub judge : Book → ℕ → ℕ → List ℤ → ℕ → Answer
 judge b k more l i = need (ltb k (length (b .clauses))) 12 i (judgeClause b (clauseAt b k) more l i)
 
--- a step that may be taken where its body is met
+-- with its body judged too: `met` says whether it is met where the step stands
 unfoldable pub judgeEnabled : Book → ℕ → ℕ → List ℤ → ℕ → Bool → Answer
 judgeEnabled b k more l i met = andThen (judge b k more l i) (need met 16 i ok)

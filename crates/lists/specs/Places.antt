@@ -1,26 +1,25 @@
 -- The steps of a list by their places, and derivation to trace from a place on, for loops.
-use mathlib.Core.Path.{_≡_, refl, ap, _∙_}
-use mathlib.Core.Option.{Option, none, some}
+use mathlib.Core.Path.{_≡_, refl, ap}
+use mathlib.Core.Option.{none}
 use mathlib.Core.List.{List, [], _∷_, _++_}
-use Prim.Native.Nat.{ℕ, zero, suc, _+_, _-_, _≤_, _<_, suc-le-suc}
-use native.Mathlib.Nat.{not-suc-le-zero, add-zero}
+use Prim.Native.Nat.{ℕ, zero, suc, _+_, _≤_, _<_}
+use native.Mathlib.Nat.{add-zero}
 use native.Mathlib.Numerals.{add-one}
 use native.Mathlib.Decide.{decLt}
 use native.Mathlib.Omega.{arith}
-use lib.ListN.{length, getD, take, drop, length-take, length-drop}
-use lib.Seq.{drop-cons, drop-drop, take-add, take-all}
+use lib.ListN.{length, take, drop, length-drop}
+use lib.Seq.{drop-drop, take-add, take-all}
 use lib.IntN.{ℤ, pos}
-use Rattle.meaning.specs.Book.{Book, Clause, Fact, Step, Instance, head}
+use Rattle.meaning.specs.Book.{Book, Instance, head}
 use Rattle.meaning.specs.System.{moves}
 use Rattle.meaning.specs.State.{Control, State, write, withPlaces, first}
 use Rattle.lists.specs.Answer.{ok}
-use Rattle.lists.specs.Instance.{clauseNumber, clauseAt, stepAt}
 use Rattle.lists.specs.Derivation.{derivationWalk, check, goal, checkDerivation}
 use Rattle.lists.specs.Trace.{stateNumbers, moveNumbers, traceNumbers}
 use Rattle.lists.specs.Convert.{derivationSteps, asTrace}
 use Rattle.lists.specs.Laws.{asked-exact}
 pub use Rattle.lists.specs.Walked.{clauseHere, stepHere, numbers-here, after, start, start-first, start-next}
-use Rattle.lists.specs.Due.{due-all, stepsDue, steps-due-none, steps-due-more, derivation-steps-due}
+use Rattle.lists.specs.Due.{due, due-all, stepsDue, steps-due-none, steps-due-more, derivation-steps-due}
 use Rattle.lists.specs.Runs.{step-in-walk}
 use Rattle.lists.specs.Exact.{derivationSense}
 
@@ -76,7 +75,7 @@ module _ (b : Book) (l : List ℤ) where
   -- each step is an instance and stands there in full
   pub step-in-derivation : (r : ℕ) (vals : List ℤ) → checkDerivation b r vals l ≡ ok → (j : ℕ) → derivationStart j < length l
       → Instance b (stepHere b l (derivationStart j)) × (derivationStart (j + 1) ≤ length l)
-  unfolding checkDerivation
+  unfolding checkDerivation due
   step-in-derivation r vals e =
       let f = goal r vals in
       step-in-walk b (derivationWalk b f) (derivationSense b f) l 0 none (rw (due-all b f l) at (asked-exact b r vals l (check b f l) .0 e .1))

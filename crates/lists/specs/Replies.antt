@@ -44,13 +44,9 @@ plain-and (refused n i) p q = p
 
 ruleset plain = (plain-ok, plain-need, plain-and)
 
-plain-judge : (b : Book) (k more : ℕ) (l : List ℤ) (i : ℕ) → Plain (judge b k more l i)
-unfolding judge judgeClause
-plain-judge b k more l i = search plain depth 10
-
 plain-enabled : (b : Book) (k more : ℕ) (l : List ℤ) (i : ℕ) (met : Bool) → Plain (judgeEnabled b k more l i met)
-unfolding judgeEnabled
-plain-enabled b k more l i met = search (plain, plain-judge)
+unfolding judgeEnabled judge judgeClause
+plain-enabled b k more l i met = search plain depth 10
 
 plain-step : (b : Book) (k : ℕ) (l : List ℤ) (i : ℕ) (o : Option Fact) → Plain (judgeStep b k l i o)
 unfolding judgeStep

@@ -1,5 +1,5 @@
 -- What a walk that judges accepts: a list is accepted just where it is the writing of steps that may follow each other and end as asked.
-use mathlib.Core.Path.{_≡_, refl, ap, _∙_}
+use mathlib.Core.Path.{_≡_, refl, ap}
 use mathlib.Core.Logic.{_↔_}
 use mathlib.Core.Option.{Option}
 use mathlib.Core.List.{List, [], _∷_, _++_, map}

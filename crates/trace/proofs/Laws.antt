@@ -1,7 +1,7 @@
 -- The ways of walking a trace, by what is due from a place on.
 use Prim.Native.Nat.{ℕ, _+_, _<_, _≤_}
 use native.Mathlib.Omega.{arith}
-use mathlib.Core.Path.{_≡_, refl, sym, ap, _∙_}
+use mathlib.Core.Path.{_≡_, sym, ap, _∙_}
 use mathlib.Core.Logic.{_⊎_, inl, inr}
 use mathlib.Core.List.{List}
 use mathlib.Core.Option.{some}
@@ -16,7 +16,7 @@ use Rattle.meaning.specs.State.{State, write, flags}
 use Rattle.lists.specs.Answer as lists
 use Rattle.lists.specs.Answer.{need, andThen}
 use Rattle.lists.specs.Compare.{eqVals, firstDiff}
-use Rattle.lists.specs.Instance.{clauseAt, stepAt}
+use Rattle.lists.specs.Instance.{clauseAt, stepAt, judgeEnabled}
 use Rattle.lists.specs.Trace.{size, stateNumbers, has, meets, judgeMove}
 use Rattle.lists.specs.Due.{walkDue, walk-due-none, walk-due-more}
 use Rattle.cursor.specs.declared.Refusal.{Refusal}
@@ -50,7 +50,7 @@ use Rattle.trace.specs.Step.{stateIn, enabled, nextState, ends, Leads, S
 
 module _ (s : List ℕ) (h : Header) (l : List ℤ) (i more : ℕ) (σ : State flags) {y : Instance} (z : Sized (bookIn s h) more) (w : Judged s h l i more y) where
   pub step-stop : {g : Refusal} (x : Stepped) → y ≡ instances.Refused g → x ≡ steps.Refused g → Steps s h l i σ x
-  unfolding Steps enabled andThen
+  unfolding Steps enabled judgeEnabled andThen
   step-stop {g} x q e = rw (e, ← z .is, stopped s h l i more y g w q)
 
   module _ (c : Clause) (q : y ≡ instances.Good c) where
@@ -75,11 +75,11 @@ module _ (s : List ℕ) (h : Header) (l : List ℤ) (i more : ℕ) (σ : State f
       met = rw (← body-is s h (numberIn s h l i) c (held .held) l (i + 1), ← u) (sym p)
 
       pub step-unmet : (x : Stepped) → r ≡ false → x ≡ steps.Refused (refuse 16 i) → Steps s h l i σ x
-      unfolding Steps enabled andThen need
+      unfolding Steps enabled judgeEnabled andThen need
       step-unmet x f e = rw (e, ← z .is, held .judged, met, f)
 
       pub step-head : (x : Stepped) {b : Place} → read s ≡ readings.Good h → r ≡ true → b ≡ headPlace c (i + 1) → x ≡ steps.Head b → Steps s h l i σ x
-      unfolding Steps enabled andThen need
+      unfolding Steps enabled judgeEnabled andThen need
       step-head x good t v e =
           let k = read-trailed s h good in
           let below = held .held .sound .head in
@@ -138,18 +138,12 @@ pub ruleset end-laws = (end-met, end-missed)
 
 -- ---- what is due from a place on
 
-and-need : (a c : lists.Answer) (t : Bool) (n i : ℕ) → andThen a (need t n i c) ≡ andThen (andThen a (need t n i lists.ok)) c
-unfolding andThen need
-and-need lists.ok c true n i = refl
-and-need lists.ok c false n i = refl
-and-need (lists.refused m j) c t n i = refl
-
 -- a move is judged in two parts: 12 to 16, then its next state
 two-parts : (b : Book) (k : ℕ) (l : List ℤ) (i : ℕ) (σ : State flags)
     → judgeMove b flags k (drop (i + 1) l) i σ
     ≡ andThen (enabled b k (drop (i + 1) l) i σ) (nextState b l (i + 1 + clauseAt b k .vars) (write flags (head b (stepAt b k (drop (i + 1) l))) σ))
 unfolding judgeMove enabled nextState
-two-parts b k l i σ = rw (drop-drop (clauseAt b k .vars) (i + 1) l) (and-need _ _ _ 16 i)
+two-parts b k l i σ = rw (drop-drop (clauseAt b k .vars) (i + 1) l)
 
 -- the head put into the state
 pub moved : (s : List ℕ) (h : Header) (l : List ℤ) (i : ℕ) (fs : List Bool) (vs : List (List ℤ)) (p : Place) (row : List ℤ) → length fs ≡ 16 → length vs ≡ 16 → h .relations ≤ 16

@@ -8,9 +8,9 @@ use lib.ListN.{length, take, drop}
 use lib.IntN.{ℤ}
 use Rattle.meaning.specs.Book.{Book, Fact, head, body}
 use Rattle.meaning.specs.State.{State, flags}
-use Rattle.lists.specs.Answer.{Answer, ok, refused, need, andThen}
+use Rattle.lists.specs.Answer.{Answer, ok, refused, need}
 use Rattle.lists.specs.Compare.{eqVals, firstDiff}
-use Rattle.lists.specs.Instance.{clauseAt, stepAt, judge}
+use Rattle.lists.specs.Instance.{clauseAt, stepAt, judgeEnabled}
 use Rattle.lists.specs.Trace.{size, stateNumbers, has, meets}
 use Rattle.book.specs.declared.Header.{Header}
 use Rattle.book.specs.Meaning.{bookIn}
@@ -27,7 +27,7 @@ stateIn s h fs vs = stateOf (bookIn s h .arities) fs vs
 
 -- 12 to 16: a step by clause k from place i on, its inputs at the front of l
 unfoldable pub enabled : Book → ℕ → List ℤ → ℕ → State flags → Answer
-enabled b k l i σ = andThen (judge b k (size b flags) l i) (need (meets b flags (body b (stepAt b k l)) σ) 16 i ok)
+enabled b k l i σ = judgeEnabled b k (size b flags) l i (meets b flags (body b (stepAt b k l)) σ)
 
 -- 19: the numbers from place j on are those of the state σ
 unfoldable pub nextState : Book → List ℤ → ℕ → State flags → Answer
