@@ -11,12 +11,13 @@ use lib.ListN.{length, getD, take, drop, length-map, length-drop, drop-of-length
 use lib.Seq.{drop-cons, getD-take, getD-drop, length-take-le}
 use lib.Dec.{leb, ltb}
 use lib.IntN.{ℤ, pos, negsuc}
-use borrow.Author.Tests.{lt-ltb, le-ltb, le-leb, lt-leb}
+use borrow.Author.Tests.{ltb-true, leb-true, lt-ltb, le-ltb, le-leb, lt-leb}
 use Rattle.meaning.specs.Constraint.{holds}
 use Rattle.meaning.specs.Book.{Book, Clause, Window, variableWindow}
-use Rattle.lists.specs.Answer.{Answer, ok, number, need}
+use Rattle.lists.specs.Answer.{Answer, ok, number, need, andThen}
 use Rattle.lists.specs.Compare.{eqZ, eqVals, inside, allIn, firstOut}
-use Rattle.lists.specs.Instance.{clauseNumber, clauseAt, judgeClause, judge}
+use Rattle.lists.specs.Instance.{clauseNumber, clauseAt, judgeClause, judge, judgeEnabled}
+use Rattle.lists.specs.Enabled.{outside}
 use Rattle.book.specs.declared.Header.{Header}
 use Rattle.book.specs.declared.Window as codes
 use Rattle.book.specs.Windows.{Windowed}
@@ -27,7 +28,7 @@ use Rattle.book.specs.Joined.{count-is}
 use Rattle.cursor.specs.Meaning.{treeIn}
 use Rattle.cursor.specs.Sound.{IsTree}
 use Rattle.table.specs.Table.{Tabled}
-use Rattle.instance.specs.Values.{numberOr, numberIn, windowOf, valuesAt, Valued}
+use Rattle.instance.specs.Values.{numberOr, numberIn, Whole, windowOf, valuesAt, Valued}
 
 -- ---- two lists of values, compared from number j on
 
@@ -249,3 +250,36 @@ module _ {s : List ℕ} {h : Header} {t : List (List ℕ)} (w : Tabled s h t) {k
 
   pub code-tree : {p : ℕ} → p ≡ getD (getD t k []) 7 0 → IsTree s v p
   code-tree f = rw (e, f) (w .row k below .tree)
+
+-- ---- where a refusal is
+
+-- 14 is judged of a step that stands there with all its values
+out-after : (i q : ℕ) (t₁ t₂ t₃ t₄ t₅ : Bool) → number (andThen (need t₁ 12 i (need t₂ 13 i (need t₃ 14 q (need t₄ 15 i ok)))) (need t₅ 16 i ok)) ≡ 14 → (t₁ ≡ true) × (t₂ ≡ true)
+unfolding need andThen
+out-after i q true true t₃ t₄ t₅ e = (refl, refl)
+out-after i q true false t₃ t₄ t₅ e = absurd (let z : ⊥ = omega arith in z)
+out-after i q false t₂ t₃ t₄ t₅ e = absurd (let z : ⊥ = omega arith in z)
+
+pub out-whole : (s : List ℕ) (h : Header) (l : List ℤ) (i more : ℕ) (met : Bool) → read s ≡ Good h → i < length l
+    → number (judgeEnabled (bookIn s h) (numberIn s h l i) more (drop (i + 1) l) i met) ≡ 14 → Whole s h l i
+unfolding judgeEnabled judge judgeClause
+out-whole s h l i more met good there e =
+    let (p, q) = out-after i _ _ _ _ _ met e in
+    record {
+      there = omega (arith, ltb-true (numberIn s h l i) (length (bookIn s h .clauses)) p, count-is s h good);
+      room = omega (arith, leb-true (clauseAt (bookIn s h) (numberIn s h l i) .vars + more) (length (drop (i + 1) l)) q, length-drop (i + 1) l);
+    }
+
+module _ {s : List ℕ} {h : Header} {t : List (List ℕ)} (w : Tabled s h t) (l : List ℤ) (i : ℕ) (x : Whole s h l i) {k : ℕ} (q : k ≡ numberOr (h .count) (getD l i (pos 0))) where
+  same : numberIn s h l i ≡ k
+  same = number-is s h (w .good) l i q
+
+  pub whole-below : k < h .count
+  whole-below = rw same at (x .there)
+
+  pub whole-room : {v : ℕ} → v ≡ getD (getD t k []) 0 0 → i + 1 + v ≤ length l
+  whole-room e = omega (arith, rw same at (x .room), w .row k whole-below .vars)
+
+  pub whole-out : {v out : ℕ} → v ≡ getD (getD t k []) 0 0 → out ≡ firstOut (variableWindow (bookIn s h) (clauseAt (bookIn s h) k)) (i + 1) (take v (drop (i + 1) l))
+      → out ≡ outside (bookIn s h) (numberIn s h l i) (drop (i + 1) l) i
+  whole-out e f = f ∙ rw (same, w .row k whole-below .vars, ← e)

@@ -4,7 +4,7 @@ use mathlib.Core.List.{List, map}
 use lib.ListN.{length, getD, take, drop}
 use lib.IntN.{ℤ, pos, negsuc}
 use Rattle.meaning.specs.Book as meant
-use Rattle.lists.specs.Instance.{clauseNumber}
+use Rattle.lists.specs.Instance.{clauseNumber, clauseAt}
 use Rattle.book.specs.declared.Header.{Header}
 use Rattle.book.specs.declared.Window.{Window}
 use Rattle.book.specs.Meaning.{bookIn}
@@ -17,6 +17,11 @@ numberOr n (negsuc c) = n
 -- the clause number that stands at place i of the list l
 abbrev pub numberIn : List ℕ → Header → List ℤ → ℕ → ℕ
 numberIn s h l i = clauseNumber (bookIn s h) (getD l i (pos 0))
+
+-- a step by a clause of the book stands at place i with all its values
+pub record Whole (s : List ℕ) (h : Header) (l : List ℤ) (i : ℕ) : Type 0 where
+  pub there : numberIn s h l i < h .count
+  pub room : i + 1 + clauseAt (bookIn s h) (numberIn s h l i) .vars ≤ length l
 
 -- the window that the code has
 abbrev pub windowOf : Window → meant.Window

@@ -11,7 +11,7 @@ ghost use Rattle.lists.specs.Instance.{clauseNumber, clauseAt, judgeClause, jud
 ghost use Rattle.lists.specs.Enabled.{refusalPlace};
 ghost use Rattle.book.specs.Meaning.{bookIn};
 ghost use Rattle.table.specs.Table.{Tabled};
-ghost use Rattle.instance.specs.Values.{numberOr, numberIn, windowOf, valuesAt, Valued};
+ghost use Rattle.instance.specs.Values.{numberOr, numberIn, Whole, windowOf, valuesAt, Valued};
 
 // ---- numbers of a list
 
@@ -184,4 +184,32 @@ pub fn instance_at(
         return 12;
     }
     judged(book, h, table, k, list, i, more)
+}
+
+// Where the refusal with this number of the step that begins at i is: 14 at the first value outside its window, any other where the step begins.
+pub fn refusal_place(
+    book: &[u8],
+    h: book::Header,
+    table: &[[u16; 8]; 64],
+    list: &[i32],
+    i: usize,
+    number: usize,
+) -> usize
+    requires { ⌜ Tabled (now book) h (now table) ⌝ }
+    requires { ⌜ i < length (now list) ⌝ }
+    requires { ⌜ (number ≡ 14 → Whole (now book) h (now list) i) ⌝ }
+    ensures { λ r. ⌜ r ≡ refusalPlace (bookIn (now (book .entry)) h) (numberIn (now (book .entry)) h (now (list .entry)) i) (drop (i + 1) (now (list .entry))) i number ⌝ }
+{
+    if number == 14 {
+        let k = number_at(list, i, h.count);
+        return first_out(
+            book,
+            h,
+            k,
+            list,
+            i + 1,
+            table::cell(table, k, table::VARIABLES),
+        );
+    }
+    i
 }
