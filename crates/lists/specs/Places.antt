@@ -18,7 +18,8 @@ use Rattle.lists.specs.Derivation.{derivationWalk, check, goal, checkDer
 use Rattle.lists.specs.Trace.{stateNumbers, moveNumbers, traceNumbers}
 use Rattle.lists.specs.Convert.{derivationSteps, asTrace}
 use Rattle.lists.specs.Laws.{asked-exact}
-pub use Rattle.lists.specs.Walked.{clauseHere, stepHere, numbers-here, after, start, start-first, start-next}
+pub use Rattle.lists.specs.Walked.{clauseHere, stepHere, numbers-here, after, start-first, start-next}
+unfoldable pub use Rattle.lists.specs.Walked.{start}
 use Rattle.lists.specs.Due.{due, due-all, stepsDue, steps-due-none, steps-due-more, derivation-steps-due}
 use Rattle.lists.specs.Runs.{step-in-walk}
 use Rattle.lists.specs.Exact.{derivationSense}
