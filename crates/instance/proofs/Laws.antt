@@ -1,4 +1,4 @@
--- The ways of the loops over values, and of judging an instance by its number.
+-- The ways of the loops over values, and of judging an instance by its number. `Atoms` beside it has the facts of a step by where they stand.
 use Prim.Native.Nat.{ℕ, zero, suc, _+_, _-_, _<_, _≤_}
 use native.Mathlib.Nat.{not-suc-le-zero, le-of-suc-le-suc}
 use native.Mathlib.Decide.{decLt}
