@@ -1,3 +1,1 @@
 pub mod Step
-pub mod Answer
-pub mod Exact
