@@ -16,11 +16,13 @@ use lib.IntN.{ℤ, pos}
 use Rattle.meaning.specs.Book.{Book, Atom, Fact, Step, Instance, head, body, atBody, clauseOf}
 use Rattle.meaning.specs.System.{before, back, lastWriters}
 use Rattle.meaning.specs.State.{Control, State}
-use Rattle.lists.specs.Answer.{ok}
+use Rattle.reply.specs.Answer.{ok}
+use Rattle.reply.specs.Among.{need-ok, and-split}
 use Rattle.lists.specs.Derivation.{numbers, goal}
 use Rattle.lists.specs.Trace.{size, firstOf, checkWalk, checkTrace}
 use Rattle.lists.specs.Convert.{traceSteps, asDerivation}
-use Rattle.lists.specs.Laws.{need-ok, and-ok, asked-exact}
+use Rattle.lists.specs.Among.{among-move, among-first}
+use Rattle.lists.specs.Laws.{asked-exact}
 use Rattle.lists.specs.Due.{walkDue, walk-due-all, walk-due-none, walk-due-more}
 use Rattle.lists.specs.Walk.{move-exact}
 use Rattle.lists.specs.Places.{clauseHere, stepHere, after, start, start-next, steps-taken, steps-all, trace-steps-due}
@@ -124,7 +126,7 @@ module _ (b : Book) (C : Control) (l : List ℤ) where
   walk-next f i σ e = go (decLt i (length l))
     where
       go : Dec (i < length l) → (ρ : State C) × (walkDue b C f l (after b (size b C) l i) ρ ≡ ok)
-      go (yes h) = (_, and-ok _ _ .0 (rw (walk-due-more b C f l i σ h) at e) .1)
+      go (yes h) = (_, and-split _ (among-move b C _ _ _ _) (rw (walk-due-more b C f l i σ h) at e) .1)
       go (no h) =
           let n = after b (size b C) l i in
           let t = need-ok _ _ _ _ .0 (rw (walk-due-none b C f l i σ (omega arith)) at e) .0 in
@@ -143,6 +145,6 @@ module _ (b : Book) (C : Control) (l : List ℤ) where
       let f = goal r vals in
       let i = traceStart j in
       let w = rw (walk-due-all b C f l) at (asked-exact b r vals l (checkWalk b C f l) .0 e .1) in
-      let (ρ, q) = walk-at f (size b C) (firstOf b C l) j (and-ok _ _ .0 w .1) in
-      let m = move-exact b C _ _ _ _ .0 (and-ok _ _ .0 (rw (walk-due-more b C f l i ρ h) at q) .0) in
+      let (ρ, q) = walk-at f (size b C) (firstOf b C l) j (and-split _ (among-first b C l) w .1) in
+      let m = move-exact b C _ _ _ _ .0 (and-split _ (among-move b C _ _ _ _) (rw (walk-due-more b C f l i ρ h) at q) .0) in
       (m .one, omega (arith, m .long, length-drop (i + 1) l, start-next b (size b C) l (size b C) j))

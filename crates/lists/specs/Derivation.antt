@@ -6,7 +6,7 @@ use lib.ListN.{length, getD, drop}
 use lib.Dec.{leb, ltb, eqb}
 use lib.IntN.{ℤ, pos}
 use Rattle.meaning.specs.Book.{Book, Fact, Step, head, body}
-use Rattle.lists.specs.Answer.{Answer, ok, refused, need, andThen}
+use Rattle.reply.specs.Answer.{Answer, ok, refused, need, andThen}
 use Rattle.lists.specs.Compare.{same}
 use Rattle.lists.specs.Instance.{clauseNumber, clauseAt, stepAt, judge}
 

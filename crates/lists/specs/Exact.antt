@@ -10,10 +10,12 @@ use lib.ListN.{length, drop, length-append, length-take, take-append-drop}
 use lib.IntN.{ℤ}
 use Rattle.meaning.specs.Book.{Book, Fact, Step, Instance, head, body, clauseOf}
 use Rattle.meaning.specs.Derivation.{Chain, lastHead, Derives}
-use Rattle.lists.specs.Answer.{ok}
+use Rattle.reply.specs.Answer.{ok}
+use Rattle.reply.specs.Among.{refused-not, need-ok, and-split, and-join}
 use Rattle.lists.specs.Instance.{clauseNumber, clauseAt, stepAt}
 use Rattle.lists.specs.Derivation.{numbers, judgeStep, checkFrom, check, goal, checkDerivation}
-use Rattle.lists.specs.Laws.{refused-not, need-ok, and-ok, same-exact, judge-exact, clause-number, step-at, after-step, Asked, asked-exact}
+use Rattle.lists.specs.Among.{among-judge, among-step}
+use Rattle.lists.specs.Laws.{same-exact, judge-exact, clause-number, step-at, after-step, Asked, asked-exact}
 
 pub step-exact : (b : Book) (k : ℕ) (l : List ℤ) (i : ℕ) (o : Option Fact)
     → (judgeStep b k l i o ≡ ok) ↔ (Instance b (stepAt b k l) × (body b (stepAt b k l) ≡ o))
@@ -21,8 +23,8 @@ unfolding judgeStep
 step-exact b k l i o =
     let one = judge-exact b k 0 l i in
     let met = same-exact (body b (stepAt b k l)) o in (
-      λ e. let (j, t) = and-ok _ _ .0 e in (one .0 j .0, met .0 (need-ok _ _ _ _ .0 t .0)),
-      λ h. and-ok _ _ .1 (one .1 (h .0, omega (arith, rw length-take at (h .0 .count))), need-ok _ 16 i ok .1 (met .1 (h .1), refl)),
+      λ e. let (j, t) = and-split _ (among-judge b k 0 l i) e in (one .0 j .0, met .0 (need-ok _ _ _ _ .0 t .0)),
+      λ h. and-join (one .1 (h .0, omega (arith, rw length-take at (h .0 .count))), need-ok _ 16 i ok .1 (met .1 (h .1), refl)),
     )
 
 module _ (b : Book) (f : Fact) where
@@ -37,7 +39,7 @@ module _ (b : Book) (f : Fact) where
       let k = clauseNumber b x in
       let n = clauseAt b k .vars in
       let s = stepAt b k l in
-      let (j, more) = and-ok _ _ .0 e in
+      let (j, more) = and-split _ (among-step b k l i o) e in
       let (one, met) = step-exact b k l i o .0 j in
       let (d, p, c, t) = only m (i + 1 + n) (some (head b s)) (drop n l) more in
       (s ∷ d, rw (p, take-append-drop, clause-number b x (one .there)), (one, met, c), t)
@@ -51,7 +53,7 @@ module _ (b : Book) (f : Fact) where
   every (suc m) i o (s ∷ d) h c t =
       let v = clauseOf b s .vars in
       let here : stepAt b (s .clause) (s .vals ++ numbers d) ≡ s = step-at b s (numbers d) (c .0) in
-      and-ok _ _ .1 (
+      and-join (
         step-exact b (s .clause) (s .vals ++ numbers d) i o .1 (rw here (c .0), rw here (c .1)),
         rw (here, after-step b s (numbers d) (c .0)) (every m (i + 1 + v) (some (head b s)) d (omega (arith, length-append (s .vals) (numbers d))) (c .2) t),
       )

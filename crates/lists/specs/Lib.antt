@@ -1,10 +1,10 @@
-pub mod Answer
 pub mod Compare
 pub mod Instance
 pub mod Derivation
 pub mod Trace
 pub mod Convert
 pub mod Due
+pub mod Among
 pub mod Laws
 pub mod Exact
 pub mod Walk

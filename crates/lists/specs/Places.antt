@@ -13,12 +13,14 @@ use lib.IntN.{ℤ, pos}
 use Rattle.meaning.specs.Book.{Book, Clause, Fact, Step, Instance, head}
 use Rattle.meaning.specs.System.{moves}
 use Rattle.meaning.specs.State.{Control, State, write, withPlaces, first}
-use Rattle.lists.specs.Answer.{ok}
+use Rattle.reply.specs.Answer.{ok}
+use Rattle.reply.specs.Among.{need-ok, and-split}
 use Rattle.lists.specs.Instance.{clauseNumber, clauseAt, stepAt}
 use Rattle.lists.specs.Derivation.{check, goal, checkDerivation}
 use Rattle.lists.specs.Trace.{stateNumbers, size, moveNumbers, traceNumbers}
 use Rattle.lists.specs.Convert.{stepsFrom, derivationSteps, traceSteps, asTrace}
-use Rattle.lists.specs.Laws.{need-ok, and-ok, clause-number, asked-exact}
+use Rattle.lists.specs.Among.{among-step}
+use Rattle.lists.specs.Laws.{clause-number, asked-exact}
 use Rattle.lists.specs.Due.{due, due-all, due-none, due-more}
 use Rattle.lists.specs.Exact.{step-exact}
 
@@ -163,7 +165,7 @@ module _ (b : Book) (l : List ℤ) where
   due-next f i o e = go (decLt i (length l))
     where
       go : Dec (i < length l) → (p : Option Fact) × (due b f l (after b 0 l i) p ≡ ok)
-      go (yes h) = (some (head b (stepHere b l i)), rw add-zero (and-ok _ _ .0 (rw (due-more b f l i o h) at e) .1))
+      go (yes h) = (some (head b (stepHere b l i)), rw add-zero (and-split _ (among-step b _ _ _ _) (rw (due-more b f l i o h) at e) .1))
       go (no h) =
           let n = after b 0 l i in
           let t = need-ok _ _ _ _ .0 (rw (due-none b f l i o (omega arith)) at e) .0 in
@@ -182,7 +184,7 @@ module _ (b : Book) (l : List ℤ) where
       let f = goal r vals in
       let i = derivationStart j in
       let (p, q) = due-at f 0 none j (rw (due-all b f l) at (asked-exact b r vals l (check b f l) .0 e .1)) in
-      let one = step-exact b _ _ _ _ .0 (and-ok _ _ .0 (rw (due-more b f l i p h) at q) .0) .0 in
+      let one = step-exact b _ _ _ _ .0 (and-split _ (among-step b _ _ _ _) (rw (due-more b f l i p h) at q) .0) .0 in
       (one, omega (arith, one .count, length-take (clauseHere b l i .vars) (drop (i + 1) l), length-drop (i + 1) l, derivation-start-next j))
 
 module _ (b : Book) (C : Control) (l : List ℤ) where

@@ -17,12 +17,14 @@ use Rattle.meaning.specs.State.{Control, State, Shaped, Initial, Has, write, wi
 use Rattle.meaning.specs.Wf.{limits-wf, head-full, head-in-window}
 use Rattle.meaning.specs.Rows.{shaped-set}
 use Rattle.meaning.specs.Laws.{ControlLaws}
-use Rattle.lists.specs.Answer.{ok}
+use Rattle.reply.specs.Answer.{ok}
+use Rattle.reply.specs.Among.{refused-not, need-ok, and-split, and-join}
 use Rattle.lists.specs.Compare.{eqVals, allIn}
 use Rattle.lists.specs.Instance.{clauseNumber, clauseAt, stepAt}
 use Rattle.lists.specs.Derivation.{goal}
 use Rattle.lists.specs.Trace.{flat, sum, cut, allRows, stateNumbers, width, size, moveNumbers, traceNumbers, has, meets, judgeMove, walkFrom, firstOf, judgeFirst, checkWalk, checkTrace}
-use Rattle.lists.specs.Laws.{refused-not, need-ok, and-ok, and-T, eqVals-exact, allIn-exact, judge-exact, clause-number, step-at, after-step, Asked, asked-exact}
+use Rattle.lists.specs.Among.{among-judge, among-move, among-first}
+use Rattle.lists.specs.Laws.{and-T, eqVals-exact, allIn-exact, judge-exact, clause-number, step-at, after-step, Asked, asked-exact}
 
 -- ---- rows as numbers
 
@@ -84,11 +86,11 @@ module _ (b : Book) (C : Control) where
       let inst = judge-exact b k (size b C) l i in
       let enabled = meets-exact (body b s) σ in
       let state = eqVals-exact (take (size b C) (drop (clauseAt b k .vars) l)) (stateNumbers b C (write C (head b s) σ)) in (
-        λ e. let (j, e₁) = and-ok _ _ .0 e in
+        λ e. let (j, e₁) = and-split _ (among-judge b k (size b C) l i) e in
             let (t₁, e₂) = need-ok _ _ _ _ .0 e₁ in
             let (t₂, e₃) = need-ok _ _ _ _ .0 e₂ in
             record { one = inst .0 j .0; long = inst .0 j .1; met = enabled .0 t₁; next = state .0 t₂ },
-        λ h. and-ok _ _ .1 (inst .1 (h .one, h .long), need-ok _ 16 i _ .1 (enabled .1 (h .met), need-ok _ 19 _ ok .1 (state .1 (h .next), refl))),
+        λ h. and-join (inst .1 (h .one, h .long), need-ok _ 16 i _ .1 (enabled .1 (h .met), need-ok _ 19 _ ok .1 (state .1 (h .next), refl))),
       )
 
   -- the steps accept only traces
@@ -103,7 +105,7 @@ module _ (b : Book) (C : Control) where
       let n = clauseAt b k .vars in
       let s = stepAt b k l in
       let σ′ = write C (head b s) σ in
-      let (j, more) = and-ok _ _ .0 e in
+      let (j, more) = and-split _ (among-move b C k l i σ) e in
       let h = move-exact k l i σ .0 j in
       let (ms, p, c, t) = only f m (i + 1 + n + size b C) σ′ (drop (size b C) (drop n l)) more in (
         record { step = s; next = σ′ } ∷ ms,
@@ -203,7 +205,7 @@ module _ (b : Book) (C : Control) where
           let here : stepAt b (s .clause) (s .vals ++ (state ++ rest)) ≡ s = step-at b s (state ++ rest) (c .0) in
           let after : drop v (s .vals ++ (state ++ rest)) ≡ state ++ rest = after-step b s (state ++ rest) (c .0) in
           let parts : length (s .vals ++ (state ++ rest)) ≡ v + (size b C + length rest) = simp length-append (omega (arith, c .0 .count)) in
-          and-ok _ _ .1 (
+          and-join (
             move-exact (s .clause) (s .vals ++ (state ++ rest)) i σ .1 (record {
               one = rw here (c .0);
               long = omega arith;
@@ -217,7 +219,7 @@ module _ (b : Book) (C : Control) where
           ↔ ((σ : State C) × (ms : List (Move b (withPlaces b C))) × (traceNumbers b C σ ms ≡ l) × Reaches b (withPlaces b C) σ ms f)
       unfolding checkWalk traceNumbers
       walk-exact f l = (
-        λ e. let (j, more) = and-ok _ _ .0 e in
+        λ e. let (j, more) = and-split _ (among-first b C l) e in
             let (i, p) = first-exact l .0 j in
             let (ms, q, c, t) = only f (length l) (size b C) (firstOf b C l) (drop (size b C) l) more in
             (firstOf b C l, ms, rw (q, ← p, take-append-drop), record { init = i; follows = c; holds = t }),
@@ -231,7 +233,7 @@ module _ (b : Book) (C : Control) where
               let here : firstOf b C (state ++ rest) ≡ σ = first-of σ rest (t .init) in
               let g : Good σ = initial-good (t .init) in
               let z : length state ≡ size b C = state-length σ g in
-              and-ok _ _ .1 (
+              and-join (
                 first-exact (state ++ rest) .1 (rw here (t .init), rw here (take-at state rest (size b C) z)),
                 rw (here, drop-at state rest (size b C) z) (every f (length (state ++ rest)) (size b C) σ ms (rw length-append (omega arith)) g (t .follows) (t .holds)),
               )

@@ -9,7 +9,7 @@ use lib.Seq.{take-suc, drop-cons}
 use Rattle.meaning.specs.Constraint.{Constraint}
 use Rattle.meaning.specs.Book as meant
 use Rattle.meaning.specs.Book.{Book, variableWindow, none-such}
-use Rattle.cursor.specs.declared.Refusal.{Refusal}
+use Rattle.reply.specs.declared.Refusal.{Refusal}
 use Rattle.cursor.specs.Meaning.{clauseIn}
 use Rattle.book.specs.declared.Header.{Header}
 use Rattle.book.specs.declared.Reading.{Reading}

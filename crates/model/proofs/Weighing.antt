@@ -11,7 +11,7 @@ use Rattle.whole.specs.Whole.{lt-or-le}
 use Rattle.meaning.specs.Constraint.{holds}
 use Rattle.meaning.specs.Book.{Book}
 use Rattle.cursor.specs.declared.Cursor.{Cursor}
-use Rattle.cursor.specs.declared.Refusal.{Refusal}
+use Rattle.reply.specs.declared.Refusal.{Refusal}
 use Rattle.cursor.specs.declared.Step.the-variants as steps
 use Rattle.cursor.specs.Steps.{pick}
 use Rattle.cursor.specs.Tree.{Got, got, no}

@@ -8,7 +8,7 @@ use lib.IntN.{ℤ}
 use Rattle.meaning.specs.Book as meant
 use Rattle.meaning.specs.Book.{placeWindow, variableWindow}
 use Rattle.cursor.specs.declared.Clause.{Clause}
-use Rattle.cursor.specs.declared.Refusal.{Refusal}
+use Rattle.reply.specs.declared.Refusal.{Refusal}
 use Rattle.cursor.specs.Meaning.{clauseIn}
 use Rattle.book.specs.declared.Header.{Header}
 use Rattle.book.specs.declared.Reading.{Reading}

@@ -9,8 +9,9 @@ use lib.Seq.{take-append-seam}
 use borrow.Author.Tests.{lt-ltb, le-ltb}
 use Rattle.meaning.specs.Book.{Book}
 use Rattle.whole.specs.Whole.{lt-or-le}
-use Rattle.cursor.specs.declared.Refusal.{Refusal}
-use Rattle.cursor.specs.Steps.{pick, refuse}
+use Rattle.reply.specs.declared.Refusal.{Refusal}
+use Rattle.reply.specs.Answer.{refuse}
+use Rattle.cursor.specs.Steps.{pick}
 use Rattle.book.specs.Answer.{Answer, accepted, refused, answer}
 use Rattle.book.specs.Accepted.{headed, refused-by}
 use Rattle.book.specs.Numbers.{refused-number}

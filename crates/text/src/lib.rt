@@ -202,7 +202,7 @@ fn write(room: &mut [u8], book: &[u8], h: book::Header) -> usize
 pub enum Printed {
     Written(usize),
     Short(usize),
-    Refused(cursor::Refusal),
+    Refused(reply::Refusal),
 }
 
 // The answer for a refused book.
