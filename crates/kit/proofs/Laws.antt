@@ -4,17 +4,17 @@ use mathlib.Core.Path.{_≡_, sym, ap, _∙_}
 use mathlib.Core.List.{List}
 use lib.IntN.{ℤ}
 use Rattle.meaning.specs.Book.{Book}
-use Rattle.lists.specs.Answer as lists
+use Rattle.reply.specs.Answer as reply
 use Rattle.lists.specs.Convert.{Reply}
-use Rattle.cursor.specs.declared.Refusal.{Refusal}
+use Rattle.reply.specs.declared.Refusal.{Refusal}
 use Rattle.book.specs.declared.Header.{Header}
 use Rattle.book.specs.declared.Reading.{Reading}
 use Rattle.book.specs.declared.Reading.the-variants as readings
 use Rattle.book.specs.declared.Span.{Span}
 use Rattle.book.specs.Answer as books
 use Rattle.book.specs.Span.{spanOf, spans-by, spans-length}
-use Rattle.facts.specs.declared.Answer as checks
-use Rattle.facts.specs.declared.Answer.the-variants as answers
+use Rattle.reply.specs.declared.Answer as checks
+use Rattle.reply.specs.declared.Answer.the-variants as answers
 use Rattle.facts.specs.Answer as facts
 use Rattle.convert.specs.declared.Converted.{Converted}
 use Rattle.convert.specs.declared.Converted.the-variants as conversions
@@ -38,11 +38,11 @@ module _ {r q : ℕ} where
   unfolding books.told
   book-refused s w e t = rw (← w .tells, e) t
 
-  pub check-accepted : (x : checks.Answer) → x ≡ answers.Accepted → Tells 0 0 r q → Tells (lists.number (facts.says x)) (lists.place (facts.says x)) r q
+  pub check-accepted : (x : checks.Answer) → x ≡ answers.Accepted → Tells 0 0 r q → Tells (reply.number (facts.says x)) (reply.place (facts.says x)) r q
   unfolding facts.says
   check-accepted x e t = rw e t
 
-  pub check-refused : (x : checks.Answer) {f : Refusal} → x ≡ answers.Refused f → Tells (f .number) (f .place) r q → Tells (lists.number (facts.says x)) (lists.place (facts.says x)) r q
+  pub check-refused : (x : checks.Answer) {f : Refusal} → x ≡ answers.Refused f → Tells (f .number) (f .place) r q → Tells (reply.number (facts.says x)) (reply.place (facts.says x)) r q
   unfolding facts.says
   check-refused x e t = rw e t
 
@@ -68,7 +68,7 @@ module _ {r q : ℕ} where
 
   -- ---- by a call's promise
 
-  pub checked : (a : lists.Answer) {x : checks.Answer} → facts.Answers a x → Tells (lists.number (facts.says x)) (lists.place (facts.says x)) r q → Tells (lists.number a) (lists.place a) r q
+  pub checked : (a : reply.Answer) {x : checks.Answer} → facts.Answers a x → Tells (reply.number (facts.says x)) (reply.place (facts.says x)) r q → Tells (reply.number a) (reply.place a) r q
   checked a w t = rw (w .tells) at t
 
   pub converted : (s : List ℕ) (f : Book → Reply) (d : List ℤ) {x : Converted} {e : List ℤ} → Converts s f d x e → Reports x r q → Replies (replyOf (books.answer s) f d) r q e

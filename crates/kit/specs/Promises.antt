@@ -5,7 +5,7 @@ use mathlib.Core.Path.{_≡_, sym, _∙_}
 use mathlib.Core.List.{List}
 use lib.ListN.{length}
 use lib.IntN.{ℤ}
-use Rattle.lists.specs.Answer as lists
+use Rattle.reply.specs.Answer as reply
 use Rattle.lists.specs.Convert.{Reply}
 use Rattle.book.specs.Answer as books
 use Rattle.book.specs.Read.{constraintOf}
@@ -52,11 +52,11 @@ ReadsBook s r q = Tells (books.number (books.answer s)) (books.place (books.answ
 
 -- ruahmitz_derivation
 abbrev pub ChecksDerivation : List ℕ → List ℤ → ℕ → List ℤ → ℕ → ℕ → Type 0
-ChecksDerivation s l g v r q = Tells (lists.number (derivation.answer s l g v)) (lists.place (derivation.answer s l g v)) r q
+ChecksDerivation s l g v r q = Tells (reply.number (derivation.answer s l g v)) (reply.place (derivation.answer s l g v)) r q
 
 -- ruahmitz_trace
 abbrev pub ChecksTrace : List ℕ → List ℤ → ℕ → List ℤ → ℕ → ℕ → Type 0
-ChecksTrace s l g v r q = Tells (lists.number (trace.answer s l g v)) (lists.place (trace.answer s l g v)) r q
+ChecksTrace s l g v r q = Tells (reply.number (trace.answer s l g v)) (reply.place (trace.answer s l g v)) r q
 
 -- a conversion that replies y
 abbrev pub Replies : Reply → ℕ → ℕ → List ℤ → Type 0

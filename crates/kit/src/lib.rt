@@ -1,5 +1,5 @@
 // The functions exported to C and Rust: each is one call of the libraries, its answer told in document 01's numbers.
-ghost use Rattle.lists.specs.Answer as lists;
+ghost use Rattle.reply.specs.Answer as reply;
 ghost use Rattle.facts.specs.Answer as facts;
 ghost use Rattle.text.specs.Reply as texts;
 ghost use Rattle.kit.specs.Promises.{Tells, Reports, Hands, ReadsBook, ChecksDerivation, ChecksTrace, GivesTrace, GivesDerivation, PrintsText, ChecksModel};
@@ -34,12 +34,12 @@ pub extern "C" fn ruahmitz_constraint(book: &[u8], clause: u64, start: &mut u64)
 }
 
 // a check's answer
-fn answered(a: facts::Answer, place: &mut u64) -> u32
-    ensures { λ r. ⌜ Tells (lists.number (facts.says a)) (lists.place (facts.says a)) r (now (place .exit)) ⌝ }
+fn answered(a: reply::Answer, place: &mut u64) -> u32
+    ensures { λ r. ⌜ Tells (reply.number (facts.says a)) (reply.place (facts.says a)) r (now (place .exit)) ⌝ }
 {
     match a {
-        facts::Answer::Accepted => told(place, 0, 0),
-        facts::Answer::Refused(q) => told(place, q.number, q.place),
+        reply::Answer::Done(_) => told(place, 0, 0),
+        reply::Answer::Refused(q) => told(place, q.number, q.place),
     }
 }
 

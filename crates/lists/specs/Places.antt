@@ -13,12 +13,13 @@ use lib.IntN.{ℤ, pos}
 use Rattle.meaning.specs.Book.{Book, Instance, head}
 use Rattle.meaning.specs.System.{moves}
 use Rattle.meaning.specs.State.{Control, State, write, withPlaces, first}
-use Rattle.lists.specs.Answer.{ok}
+use Rattle.reply.specs.Answer.{ok}
 use Rattle.lists.specs.Derivation.{derivationWalk, check, goal, checkDerivation}
 use Rattle.lists.specs.Trace.{stateNumbers, moveNumbers, traceNumbers}
 use Rattle.lists.specs.Convert.{derivationSteps, asTrace}
 use Rattle.lists.specs.Laws.{asked-exact}
-pub use Rattle.lists.specs.Walked.{clauseHere, stepHere, numbers-here, after, start, start-first, start-next}
+pub use Rattle.lists.specs.Walked.{clauseHere, stepHere, numbers-here, after, start-first, start-next}
+unfoldable pub use Rattle.lists.specs.Walked.{start}
 use Rattle.lists.specs.Due.{due, due-all, stepsDue, steps-due-none, steps-due-more, derivation-steps-due}
 use Rattle.lists.specs.Runs.{step-in-walk}
 use Rattle.lists.specs.Exact.{derivationSense}
