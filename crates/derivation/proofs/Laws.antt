@@ -3,29 +3,41 @@ use Prim.Native.Nat.{ℕ, _+_, _<_, _≤_}
 use native.Mathlib.Nat.{le-refl}
 use native.Mathlib.Omega.{arith}
 use mathlib.Core.Path.{_≡_, refl, sym, ap, _∙_}
+use mathlib.Core.Logic.{⊎-elim}
 use mathlib.Core.Bool.{Bool, true, false}
 use mathlib.Core.List.{List, []}
 use mathlib.Core.Option.{Option, none, some}
-use lib.ListN.{length, getD, take, drop}
+use lib.ListN.{length, getD, take, drop, length-drop}
 use lib.Seq.{take-length}
-use lib.Dec.{eqb}
+use lib.Dec.{eqb, eqb→eq}
 use lib.IntN.{ℤ, pos}
 use borrow.Author.Tests.{eqb-true, eqb-false, lt-ltb, le-ltb, eq-eqb, ne-eqb}
 use Rattle.meaning.specs.Book.{Book, Fact, head, body}
 use Rattle.cursor.specs.Steps.{pick}
 use Rattle.lists.specs.Compare.{eqVals, same}
-use Rattle.lists.specs.Answer.{number}
+use Rattle.reply.specs.declared.Refusal.{Refusal}
+use Rattle.reply.specs.declared.Answer as code
+use Rattle.reply.specs.declared.Answer.the-variants.{Done, Refused}
+use Rattle.reply.specs.Answer.{Answer, done, refused, ok, number, need, andThen, refuse, told}
+use Rattle.reply.specs.Among.{Among, need-ok, told-done, told-no}
 use Rattle.lists.specs.Instance.{clauseAt, stepAt, judge}
-use Rattle.lists.specs.Derivation.{goal}
+use Rattle.lists.specs.Derivation.{goal, judgeGoal, judgeStep, check, checkDerivation}
+use Rattle.lists.specs.Among.{among-derivation}
+use Rattle.lists.specs.Convert.{derivationSteps}
+use Rattle.lists.specs.Due.{due, due-all, due-none, due-more}
+use Rattle.lists.specs.Places.{countDue, count-due-all, count-due-none, count-due-more}
+use Rattle.lists.specs.Enabled.{refusalPlace, enabled-number, enabled-zero, enabled-refused}
+use Rattle.lists.specs.Laws.{enabled-exact}
 use Rattle.book.specs.declared.Header.{Header}
 use Rattle.book.specs.Meaning.{bookIn}
 use Rattle.book.specs.Joined.{count-is}
 use Rattle.book.specs.Trailer.{read-trailed}
 use Rattle.table.specs.Table.{Tabled}
-use Rattle.instance.specs.Values.{numberOr, numberIn, valuesAt, Valued}
-use Rattle.instance.proofs.Laws.{number-is, instance-room}
-use Rattle.instance.proofs.Atoms.{head-at, head-there, head-below, head-full, body-none, body-at, body-there, body-below}
+use Rattle.instance.specs.Values.{numberOr, numberIn, Whole, valuesAt, Valued}
+use Rattle.instance.proofs.Laws.{number-is, instance-room, out-whole}
+use Rattle.instance.proofs.Atoms.{row-vars, head-at, head-there, head-below, head-full, body-none, body-at, body-there, body-below}
 use Rattle.derivation.specs.Step.{factAfter, Stood}
+use Rattle.derivation.specs.Answer.{counted}
 
 -- ---- what is remembered
 
@@ -127,3 +139,133 @@ module _ {s : List ℕ} {h : Header} {t : List (List ℕ)} (w : Tabled s h t) (l
   pub step-met : (o : Option Fact) {k : ℕ} {r : Bool} → k ≡ numberOr (h .count) (getD l i (pos 0)) → r ≡ same (body (bookIn s h) (stepAt (bookIn s h) k (drop (i + 1) l))) o
       → r ≡ same (body (bookIn s h) (stepAt (bookIn s h) (numberIn s h l i) (drop (i + 1) l))) o
   step-met o q e = rw (number-is s h (w .good) l i q) e
+
+-- ---- what is due from place i on, where o is the fact just before, c is how many steps were taken, and a is the answer due in all
+
+-- what is due here is what was due in all, and so are the steps; the step before stands there in full
+pub record Going (s : List ℕ) (h : Header) (f : Fact) (l : List ℤ) (i last since c : ℕ) : Type 0 where
+  pub inside : i ≤ length l
+  pub same-due : due (bookIn s h) f l i (factAfter (bookIn s h) l last since) ≡ check (bookIn s h) f l
+  pub same-steps : c + countDue (bookIn s h) l i ≡ length (derivationSteps (bookIn s h) l)
+  pub few : c ≤ i
+  pub stood : last < h .count → Stood (bookIn s h) l last since
+
+module _ {s : List ℕ} {h : Header} {t : List (List ℕ)} (w : Tabled s h t) (f : Fact) (l : List ℤ) where
+  abbrev theBook : Book
+  theBook = bookIn s h
+
+  pub going-start : (j : ℕ) → Going s h f l 0 (h .count) j 0
+  going-start j = record {
+    inside = omega arith;
+    same-due = rw (after-none w l (h .count) j (le-refl _)) (sym (due-all theBook f l));
+    same-steps = omega (arith, count-due-all theBook l);
+    few = omega arith;
+    stood = λ b. absurd (let z : ⊥ = omega arith in z);
+  }
+
+  module _ {i last since c : ℕ} (g : Going s h f l i last since c) where
+    abbrev o : Option Fact
+    o = factAfter theBook l last since
+
+    pub going-done : {r : Bool} {x : code.Answer} → length l ≤ i → r ≡ same o (some f) → r ≡ true → x ≡ Done c → x ≡ told (counted (check theBook f l) (length (derivationSteps theBook l)))
+    unfolding told counted need
+    going-done b q e z =
+        let n : countDue theBook l i ≡ 0 = count-due-none theBook l i b in
+        let m : c ≡ length (derivationSteps theBook l) = omega (arith, g .same-steps) in
+        rw (← (g .same-due), due-none theBook f l i o b, sym q ∙ e, ← m) z
+
+    pub going-missed : {r : Bool} {x : code.Answer} → length l ≤ i → r ≡ same o (some f) → r ≡ false → x ≡ Refused (refuse 17 (length l))
+        → x ≡ told (counted (check theBook f l) (length (derivationSteps theBook l)))
+    unfolding told counted need
+    going-missed b q e z =
+        let m : i ≡ length l = omega (arith, g .inside) in
+        rw (← (g .same-due), due-none theBook f l i o b, sym q ∙ e, m) z
+
+    module _ (there : i < length l) {n : ℕ} (e : n ≡ number (judgeStep theBook (numberIn s h l i) (drop (i + 1) l) i o)) where
+      pub going-small : n < 256
+      unfolding judgeStep
+      going-small = ⊎-elim (λ z. omega (arith, z)) (λ z. omega (arith, z .1)) (enabled-number theBook (numberIn s h l i) 0 (drop (i + 1) l) i (same (body theBook (stepAt theBook (numberIn s h l i) (drop (i + 1) l))) o))
+
+      pub going-whole : n ≡ 14 → Whole s h l i
+      unfolding judgeStep
+      going-whole z = out-whole s h l i 0 _ (w .good) there (sym e ∙ z)
+
+      pub going-stop : {p : ℕ} {x : code.Answer} → (n ≡ 0 → ⊥) → p ≡ refusalPlace theBook (numberIn s h l i) (drop (i + 1) l) i n → x ≡ Refused (refuse n p)
+          → x ≡ told (counted (check theBook f l) (length (derivationSteps theBook l)))
+      unfolding told counted andThen judgeStep
+      going-stop z q y = rw (← (g .same-due), due-more theBook f l i o there, enabled-refused theBook (numberIn s h l i) 0 (drop (i + 1) l) i _ n (sym e) z, ← q) y
+
+      module _ (z : n ≡ 0) {k v : ℕ} (q : k ≡ numberOr (h .count) (getD l i (pos 0))) (y : v ≡ getD (getD t k []) 0 0) where
+        step-ok : judgeStep theBook (numberIn s h l i) (drop (i + 1) l) i o ≡ ok
+        unfolding judgeStep
+        step-ok = enabled-zero theBook (numberIn s h l i) 0 (drop (i + 1) l) i _ (sym e ∙ z)
+
+        here : numberIn s h l i ≡ k
+        here = number-is s h (w .good) l i q
+
+        stands : (k < h .count) × (i + 1 + clauseAt theBook k .vars ≤ length l)
+        unfolding judgeStep
+        stands =
+            let x = enabled-exact theBook (numberIn s h l i) 0 (drop (i + 1) l) i _ .0 step-ok in
+            (rw here at (let b : numberIn s h l i < h .count = omega (arith, x .0 .there, count-is s h (w .good)) in b), omega (arith, rw here at (x .1), length-drop (i + 1) l))
+
+        pub going-below : k < h .count
+        going-below = stands .0
+
+        pub going-stood : Stood theBook l k (i + 1)
+        going-stood = record { room = stands .1 }
+
+        vars : clauseAt theBook k .vars ≡ v
+        vars = row-vars w going-below l 0 ∙ sym y
+
+        pub going-on : Going s h f l (i + 1 + v) k (i + 1) (c + 1)
+        unfolding andThen
+        going-on = record {
+          inside = omega (arith, stands .1, vars);
+          same-due = rw (after-some w l k (i + 1) going-below, ← vars) (sym (rw (step-ok, here) at (due-more theBook f l i o there)) ∙ g .same-due);
+          same-steps = omega (arith, rw (here, vars) at (count-due-more theBook l i there), g .same-steps);
+          few = omega (arith, g .few);
+          stood = λ b. going-stood;
+        }
+
+-- ---- one part of the answer after another
+
+module _ (a b : Answer) (n : ℕ) {x y : code.Answer} where
+  pub counted-stop : {g : Refusal} → y ≡ told a → y ≡ Refused g → x ≡ Refused g → x ≡ told (counted (andThen a b) n)
+  unfolding told andThen counted
+  counted-stop {g} p q e = rw (told-no a g (sym p ∙ q)) e
+
+  pub counted-on : {m : ℕ} → y ≡ told a → y ≡ Done m → x ≡ told (counted b n) → x ≡ told (counted (andThen a b) n)
+  unfolding andThen
+  counted-on p q e = rw (told-done a (sym p ∙ q)) e
+
+pub ruleset counting = (counted-stop, counted-on)
+
+-- a goal that was accepted has a value for each place
+pub goal-full : (b : Book) (r : ℕ) (vs : List ℤ) {y : code.Answer} {n : ℕ} → y ≡ told (judgeGoal b r vs) → y ≡ Done n → length vs ≡ getD (b .arities) r 0
+unfolding judgeGoal
+goal-full b r vs p q =
+    let (t, e) = need-ok _ _ _ _ .0 (told-done _ (sym p ∙ q)) in
+    eqb→eq (length vs) (getD (b .arities) r 0) (need-ok _ _ _ _ .0 e .0)
+
+-- ---- the check's own answer has no steps in it
+
+module _ (a : Answer) (n : ℕ) {x y : code.Answer} where
+  pub plain-stop : {g : Refusal} → y ≡ told (counted a n) → y ≡ Refused g → x ≡ Refused g → x ≡ told a
+  unfolding told counted
+  plain-stop {g} p q e = go a (sym p ∙ q)
+    where
+      go : (a : Answer) → told (counted a n) ≡ Refused g → x ≡ told a
+      go (done m) z = absurd (let u : _≡_ {A = ℕ} 0 1 = cc in let v : ⊥ = omega arith in v)
+      go (refused m i) z = e ∙ sym z
+
+  plain-done : {ns : List ℕ} {m : ℕ} → Among ns a → y ≡ told (counted a n) → y ≡ Done m → x ≡ Done 0 → x ≡ told a
+  unfolding told counted
+  plain-done {ns} {m} w p q e = go a w (sym p ∙ q)
+    where
+      go : (a : Answer) → Among ns a → told (counted a n) ≡ Done m → x ≡ told a
+      go (done i) v z = e ∙ sym (ap Done (v .plain refl))
+      go (refused i j) v z = absurd (let u : _≡_ {A = ℕ} 0 1 = cc in let v : ⊥ = omega arith in v)
+
+pub check-done : (b : Book) (r : ℕ) (vs l : List ℤ) (n : ℕ) {x y : code.Answer} {m : ℕ} → y ≡ told (counted (checkDerivation b r vs l) n) → y ≡ Done m → x ≡ Done 0 → x ≡ told (checkDerivation b r vs l)
+check-done b r vs l n p q e = plain-done (checkDerivation b r vs l) n (among-derivation b r vs l) p q e

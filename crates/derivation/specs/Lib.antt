@@ -1,1 +1,3 @@
 pub mod Step
+pub mod Answer
+pub mod Exact

@@ -14,7 +14,7 @@ use lib.IntN.{ℤ, pos, negsuc}
 use borrow.Author.Tests.{ltb-true, leb-true, lt-ltb, le-ltb, le-leb, lt-leb}
 use Rattle.meaning.specs.Constraint.{holds}
 use Rattle.meaning.specs.Book.{Book, Clause, Window, variableWindow}
-use Rattle.lists.specs.Answer.{Answer, ok, refused, number, need, andThen}
+use Rattle.reply.specs.Answer.{Answer, done, refused, ok, number, need, andThen}
 use Rattle.lists.specs.Compare.{eqZ, eqVals, inside, allIn, firstOut}
 use Rattle.lists.specs.Instance.{clauseNumber, clauseAt, judgeClause, judge, judgeEnabled}
 use Rattle.lists.specs.Enabled.{outside}
@@ -297,7 +297,7 @@ judge-tests i q false t₂ t₃ t₄ e = absurd (let z : ⊥ = omega arith in z)
 
 number-stop : (x y : Answer) → (number x ≡ 0 → ⊥) → number (andThen x y) ≡ number x
 unfolding andThen
-number-stop ok y n = absurd (n refl)
+number-stop (done m) y n = absurd (n refl)
 number-stop (refused m i) y n = refl
 
 module _ (s : List ℕ) (h : Header) (good : read s ≡ Good h) (l : List ℤ) (i more : ℕ) {n : ℕ} (e : n ≡ number (judge (bookIn s h) (numberIn s h l i) more (drop (i + 1) l) i)) where
