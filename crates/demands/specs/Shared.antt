@@ -3,20 +3,19 @@ use Prim.Native.Nat.{ℕ, zero, suc, _≤_}
 use native.Mathlib.Omega.{arith}
 use mathlib.Core.Path.{_≡_, refl, sym, ap, _∙_}
 use mathlib.Core.Bool.{Bool, true, false}
-use mathlib.Core.Logic.{_⊎_, inl, inr, ⊎-elim}
+use mathlib.Core.Logic.{_⊎_, inl, inr}
 use mathlib.Core.List.{List, [], _∷_, _++_}
 use lib.ListN.{length}
-use lib.Dec.{T, leb}
+use lib.Dec.{leb}
 use borrow.Author.Tests.{leb-true, leb-false}
 use Rattle.meaning.specs.Book.{Book}
 use Rattle.reply.specs.declared.Answer as code
 use Rattle.reply.specs.Answer.{Answer, done, refused, number, place, says, told, says-told, Answers, answers-one}
 use Rattle.reply.specs.Among.{has, has-before, has-behind, Among, refused-not}
-use Rattle.reply.specs.Room.{Due, kept, wrote, written, Leaves, leaves-one, Fair, Front, written-wrote, written-needs}
-use Rattle.book.specs.Answer as books
+use Rattle.reply.specs.Room.{Due, kept, written, Leaves, leaves-one, Fair, Front, written-wrote, written-needs}
 use Rattle.book.specs.OnBook.{onBook, on-refused, on-both, on-fair}
 use Rattle.book.specs.Numbers.{refused-number}
-use Rattle.kit.specs.Promises.{Tells, Writes}
+use Rattle.kit.specs.Promises.{Tells}
 use Rattle.demands.specs.Demands.{Replies, RepliesInC}
 use Rattle.demands.specs.Demands.Words.{Call, pair, answering, filling, inBook, OneOf}
 
@@ -41,26 +40,26 @@ pub record Numbered (ns : List ℕ) (a : Answer) : Type 0 where
   pub which : OneOf (0 ∷ inBook ++ ns) (number a)
   pub success : number a ≡ 0 → (n : ℕ) × (a ≡ done n)
 
-numbered : (ns : List ℕ) (a : Answer) → ¬ OneOf ns 0 → ({n p : ℕ} → a ≡ refused n p → OneOf (inBook ++ ns) n) → Numbered ns a
+numbered : (ns : List ℕ) (a : Answer) → ¬ OneOf ns 0 → ((n p : ℕ) → a ≡ refused n p → OneOf (inBook ++ ns) n) → Numbered ns a
 unfolding has
 numbered ns (done n) none w = record { which = tt; success = λ e. (n, refl) }
 numbered ns (refused n p) none w = record {
-  which = has-behind (0 ∷ []) (inBook ++ ns) n (w refl);
-  success = λ (e : n ≡ 0). absurd (none (rw e at (w refl)));
+  which = has-behind (0 ∷ []) (inBook ++ ns) n (w n p refl);
+  success = λ (e : n ≡ 0). absurd (none (rw e at (w n p refl)));
 }
 
 -- of a call on a book
 module _ {X : Type 0} (ns : List ℕ) (s : List ℕ) (stop : ℕ → ℕ → X) (go : Book → X) (of : X → Answer) (none : ¬ OneOf ns 0)
-    (stops : (n p : ℕ) → of (stop n p) ≡ refused n p) (goes : (b : Book) {n p : ℕ} → of (go b) ≡ refused n p → OneOf ns n) where
+    (stops : (n p : ℕ) → of (stop n p) ≡ refused n p) (goes : (b : Book) (n p : ℕ) → of (go b) ≡ refused n p → OneOf ns n) where
   pub on-numbered : Numbered ns (of (onBook s stop go))
   unfolding has
   on-numbered = on-both s stop go (λ x. Numbered ns (of x))
-      (λ n p q. numbered ns (of (stop n p)) none λ {n = m} {p = r} e.
+      (λ n p q. numbered ns (of (stop n p)) none λ m r e.
       let z : refused n p ≡ refused m r = sym (stops n p) ∙ e in
       let k : n ≡ m = ap number z in
       let (l, h) = refused-number s n p q in
       rw (← k) (has-before inBook ns n (in-book n l h)))
-      (λ b q. numbered ns (of (go b)) none λ {n = m} e. has-behind inBook ns m (goes b e))
+      (λ b q. numbered ns (of (go b)) none λ m r e. has-behind inBook ns m (goes b m r e))
 
 -- ---- calls without a room
 
@@ -83,7 +82,7 @@ module _ {R O : Type 0} (Keeps : List ℕ → R → Type 0) (answer : R → Answ
     plain n = on-both s refused g (λ a. a ≡ done n → n ≡ 0) (λ m p q e. absurd (refused-not e)) (λ b q e. among b .plain e)
 
     said : (y : R) → Keeps s y → Numbered ns (answer y)
-    said y w = rw (tells y w) (on-numbered ns s refused g (λ a. a) none (λ n p. refl) (λ b. among b .among))
+    said y w = rw (tells y w) (on-numbered ns s refused g (λ a. a) none (λ n p. refl) (λ b n p e. among b .among e))
 
     pub roomless : Replies call s
     roomless = record {
@@ -107,8 +106,8 @@ module _ {R O : Type 0} (Keeps : List ℕ → R → Type 0) (answer : R → Answ
   }
 
 -- number and place as the function for C has them
-pub tells-pair : {a : Answer} {o : ℕ × ℕ} {x : code.Answer} → Tells a (o .0) (o .1) → says x ≡ a → o ≡ pair (says x)
-tells-pair {a} {o} {x} u e = λ j. ((u .number ∙ sym (ap number e)) j, (u .place ∙ sym (ap place e)) j)
+pub tells-pair : {a : Answer} {o : ℕ × ℕ} (x : code.Answer) → Tells a (o .0) (o .1) → says x ≡ a → o ≡ pair (says x)
+tells-pair {a} {o} x u e = λ j. ((u .number ∙ sym (ap number e)) j, (u .place ∙ sym (ap place e)) j)
 
 pub pair-tells : (a : Answer) → Tells a (number a) (place a)
 pair-tells a = record { number = refl; place = refl }
@@ -125,7 +124,7 @@ module _ (g : Book → Answer) (ns : List ℕ) (s : List ℕ) where
   pub answering-in-c : RepliesInC (answering (λ s. onBook s refused g) ns) s
   answering-in-c =
       roomless-in-c (λ s x. Answers (onBook s refused g) x) says ns _ _ s (told due) (record { tells = says-told due })
-      (rw says-told (pair-tells due)) (λ o y u w. tells-pair u (w .tells))
+      (rw says-told (pair-tells due)) (λ o y u w. tells-pair y u (w .tells))
 
 -- ---- calls with a room
 
@@ -136,12 +135,12 @@ module _ {A : Type 0} (g : List A → Book → Due A) (ns : List ℕ) (s : List 
   leaves-owed : (d : List A) → Leaves (owed d) (told (owed d .answer)) (owed d .room)
   leaves-owed d = record { tells = says-told (owed d .answer); room = refl }
 
-  module _ (none : ¬ OneOf ns 0) (fair : (d : List A) (b : Book) → Fair d (g d b)) (goes : (d : List A) (b : Book) {n p : ℕ} → g d b .answer ≡ refused n p → OneOf ns n) where
+  module _ (none : ¬ OneOf ns 0) (fair : (d : List A) (b : Book) → Fair d (g d b)) (goes : (d : List A) (b : Book) (n p : ℕ) → g d b .answer ≡ refused n p → OneOf ns n) where
     fair-owed : (d : List A) → Fair d (owed d)
     fair-owed d = on-fair s d (g d) (fair d)
 
-    said-owed : (d : List A) {x : code.Answer} → says x ≡ owed d .answer → Numbered ns (says x)
-    said-owed d e = rw e (on-numbered ns s (kept d) (g d) (λ y. y .answer) none (λ n p. refl) (goes d))
+    said-owed : (d : List A) (x : code.Answer) → says x ≡ owed d .answer → Numbered ns (says x)
+    said-owed d x e = rw e (on-numbered ns s (kept d) (g d) (λ y. y .answer) none (λ n p. refl) (goes d))
 
     pub filling-replies : Replies (filling (λ s d. onBook s (kept d) (g d)) ns) s
     filling-replies = record {
@@ -149,8 +148,8 @@ module _ {A : Type 0} (g : List A → Book → Due A) (ns : List ℕ) (s : List 
       one = λ d e f x y. leaves-one;
       by-number = λ d e x w. record {
         book-refused = λ n p q. w .tells ∙ ap (λ (y : Due A). y .answer) (on-refused s (kept d) (g d) n p q);
-        success = said-owed d (w .tells) .success;
-        which = said-owed d (w .tells) .which;
+        success = said-owed d x (w .tells) .success;
+        which = said-owed d x (w .tells) .which;
         refused-room = λ n p q. w .room ∙ fair-owed d .refused-room (sym (w .tells) ∙ q);
         done-room = λ n q. rw (w .room) (fair-owed d .done-room (sym (w .tells) ∙ q));
       };
@@ -161,7 +160,7 @@ module _ {A : Type 0} (g : List A → Book → Due A) (ns : List ℕ) (s : List 
     some = λ d. (pair (owed d .answer), owed d .room, record { told = pair-tells (owed d .answer); room = refl });
     one = λ d e f o q u v.
         ((λ j. ((u .told .number ∙ sym (v .told .number)) j, (u .told .place ∙ sym (v .told .place)) j)), u .room ∙ sym (v .room));
-    same = λ d e f o x u w. (tells-pair (u .told) (w .tells), u .room ∙ sym (w .room));
+    same = λ d e f o x u w. (tells-pair x (u .told) (w .tells), u .room ∙ sym (w .room));
   }
 
 -- the refusals of what is written: those before it, and 9

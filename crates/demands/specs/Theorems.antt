@@ -1,13 +1,12 @@
 -- The demands hold: demand-1, demand-1-in-c, demand-2 and demand-3. Their proofs are cited from the crates that the calls stand in.
 use Prim.Native.Nat.{ℕ, _<_}
-use mathlib.Core.Path.{_≡_, refl, sym, ap, _∙_}
-use mathlib.Core.Logic.{_↔_, ⊎-elim}
+use mathlib.Core.Path.{_≡_, refl, sym, ap, subst, _∙_}
+use mathlib.Core.Logic.{_↔_, _⊎_, ⊎-elim}
 use mathlib.Core.Bool.{false}
 use mathlib.Core.List.{List, [], _∷_}
 use lib.ListN.{length, take, length-replicate}
 use lib.IntN.{ℤ}
-use Rattle.reply.specs.declared.Answer.the-variants.{Done}
-use Rattle.reply.specs.Answer.{ok, refused, place, says, says-told, says-one, told, says-done}
+use Rattle.reply.specs.Answer.{ok, refused, says, says-told, told}
 use Rattle.reply.specs.Among.{has, has-behind, among-ok, refused-not}
 use Rattle.reply.specs.Room.{written, written-fair}
 use Rattle.meaning.specs.Book.{Book, Fact, placeWindow, query}
@@ -59,7 +58,7 @@ use Rattle.kit.specs.Promises as kit
 use Rattle.kit.specs.Part.{part-handed}
 use Rattle.demands.specs.Demands.{Replies, RepliesInC, InC, Demand1, Demand2, Demand3}
 use Rattle.demands.specs.Demands.Words as words
-use Rattle.demands.specs.Demands.Words.{Holds, Refuses, ReadBook, IsDerivation, IsTrace, OneOf, pair}
+use Rattle.demands.specs.Demands.Words.{Holds, ReadBook, IsDerivation, IsTrace, OneOf}
 use Rattle.demands.specs.Shared.{roomless, roomless-in-c, tells-pair, pair-tells, answering-replies, answering-in-c, filling-replies, filling-in-c, written-numbers}
 
 -- ---- what the citations need
@@ -103,24 +102,24 @@ steps-stated {b} L σ i ms =
 -- ---- Demand 1: of any list of numbers
 
 -- the refusals of the two conversions and of the printer
-to-trace-numbers : (l : List ℤ) (g : Fact) (d : List ℤ) (b : Book) {n p : ℕ} → toTrace b flags (g .rel) (g .vals) l d .answer ≡ refused n p → OneOf (9 ∷ 20 ∷ inDerivation) n
+to-trace-numbers : (l : List ℤ) (g : Fact) (d : List ℤ) (b : Book) (n p : ℕ) → toTrace b flags (g .rel) (g .vals) l d .answer ≡ refused n p → OneOf (9 ∷ 20 ∷ inDerivation) n
 unfolding toTrace has
-to-trace-numbers l g d b {n} e =
+to-trace-numbers l g d b n p e =
     ⊎-elim (λ k. later n (among-limited b flags (g .rel) (g .vals) l d .among k)) (λ z. rw z tt)
     (written-numbers (limited b flags (g .rel) (g .vals) l d) (asTrace b flags l) d e)
   where
     later : (n : ℕ) → OneOf (20 ∷ inDerivation) n → OneOf (9 ∷ 20 ∷ inDerivation) n
     later n h = has-behind (9 ∷ []) (20 ∷ inDerivation) n h
 
-to-derivation-numbers : (l : List ℤ) (g : Fact) (d : List ℤ) (b : Book) {n p : ℕ} → toDerivation b flags (g .rel) (g .vals) l d .answer ≡ refused n p → OneOf (9 ∷ inTrace) n
+to-derivation-numbers : (l : List ℤ) (g : Fact) (d : List ℤ) (b : Book) (n p : ℕ) → toDerivation b flags (g .rel) (g .vals) l d .answer ≡ refused n p → OneOf (9 ∷ inTrace) n
 unfolding toDerivation has
-to-derivation-numbers l g d b {n} e =
+to-derivation-numbers l g d b n p e =
     ⊎-elim (λ k. has-behind (9 ∷ []) inTrace n (among-trace b flags (g .rel) (g .vals) l .among k)) (λ z. rw z tt)
     (written-numbers (checkTrace b flags (g .rel) (g .vals) l) (asDerivation b flags (g .rel) l) d e)
 
-print-numbers : (d : List ℕ) (b : Book) {n p : ℕ} → written ok (text b) d .answer ≡ refused n p → OneOf (9 ∷ []) n
+print-numbers : (d : List ℕ) (b : Book) (n p : ℕ) → written ok (text b) d .answer ≡ refused n p → OneOf (9 ∷ []) n
 unfolding has
-print-numbers d b e = ⊎-elim (λ k. absurd (refused-not (sym k))) (λ z. rw z tt) (written-numbers ok (text b) d e)
+print-numbers d b n p e = ⊎-elim (λ k. absurd (refused-not (sym k))) (λ z. rw z tt) (written-numbers ok (text b) d e)
 
 -- the reader's and the model check's replies, which are no plain answers
 module _ (s : List ℕ) where
@@ -136,10 +135,10 @@ module _ (s : List ℕ) where
   reading-in-c : RepliesInC words.readBook s
   reading-in-c =
       roomless-in-c ReadBook (λ x. says (refusedBy x)) [] _ _ s (read s) read-keeps
-      (rw (reading-says s read-keeps) (pair-tells (reading s))) (λ o y u w. tells-pair u (reading-says s w))
+      (rw (reading-says s read-keeps) (pair-tells (reading s))) (λ o y u w. tells-pair (refusedBy y) u (reading-says s w))
 
   module _ (m : List ℕ) where
-    reply : code.Reply
+    abbrev reply : code.Reply
     reply = let y = modelAnswer s m in record { answer = told (y .answer); count = y .count; clause = y .clause; values = y .values }
 
     reply-keeps : replies.Replies s m reply
@@ -162,7 +161,7 @@ module _ (s : List ℕ) where
         (record { told = rw (ap (λ (a : Reply). a .answer) (reply-keeps .tells)) (pair-tells (modelAnswer s m .answer)); count = refl; clause = refl; values = refl })
         (λ o y u w. let e = sym (w .tells) in
         λ j. (
-          tells-pair (u .told) (ap (λ (a : Reply). a .answer) (w .tells)) j,
+          tells-pair (y .answer) (u .told) (ap (λ (a : Reply). a .answer) (w .tells)) j,
           ((u .count ∙ ap (λ (a : Reply). a .count) e) j, (u .clause ∙ ap (λ (a : Reply). a .clause) e) j, (u .values ∙ ap (λ (a : Reply). a .values) e) j),
         ))
 
@@ -201,6 +200,9 @@ demand-1-in-c s = record {
 
 -- ---- Demand 2: of all bytes
 
+told-plain : (s m : List ℕ) (x : code.Reply) → replies.Replies s m x → dues.Plain (replies.told x)
+told-plain s m x h = subst dues.Plain (sym (h .tells)) (dues.model-plain s m)
+
 pub demand-2 : (s : List ℕ) → Bytes s → Demand2 s
 demand-2 s bytes =
     let query-there : (b : Book) → Holds s b → b .query < length (b .arities) = λ b held. exact.accepted-is-written s bytes b held .1 .query in record {
@@ -233,13 +235,13 @@ demand-2 s bytes =
       all-counted = λ m x h. model.all-counted s m x h;
       clause-count = models.clause-count;
       first-broken = λ m y x h b held e. let (ts, t, f, w, k, r) = model.first-named s m x h b held y e in (ts, t, (f, w), k, r);
-      model-unread = λ m y x h b held none. rw (model.examined s m x h b held) (dues.unread b m y none);
+      model-unread = λ m y x h b held none. subst (λ (z : Reply). (numberOf z ≡ 21) ⊎ (numberOf z ≡ 22)) (sym (model.examined s m x h b held)) (dues.unread b m y (λ w. none (w .0, (w .1, w .2))));
       model-query = λ m x h b held ts w q. model.examined s m x h b held ∙ ap (examine b) (w .1) ∙ dues.true-query b (query-there b held) ts (w .0) q;
       model-many = λ m x h b held ts w q k. model.examined s m x h b held ∙ ap (examine b) (w .1) ∙ dues.too-many b (query-there b held) ts (w .0) q k;
       model-broken = λ m x h b held ts w q k t z.
           ap numberOf (model.examined s m x h b held ∙ ap (examine b) (w .1)) ∙ dues.some-broken b (query-there b held) ts (w .0) q k t z;
-      model-zeros = λ m x h. (rw (sym (h .tells)) (dues.model-plain s m)) .zeros;
-      model-unexamined = λ m x h. (rw (sym (h .tells)) (dues.model-plain s m)) .uncounted;
+      model-zeros = λ m x h. told-plain s m x h .zeros;
+      model-unexamined = λ m x h. told-plain s m x h .uncounted;
       text-written = λ b held d e x h. printed.text-written s d x e h b held;
       text-short = λ b held d e x h l. printed.text-short s d x e h b held l .0;
       text-parses = parse-text;
