@@ -104,7 +104,7 @@ fn weigh(book: &[u8], h: book::Header, model: &[u8], starts: [usize; 16]) -> Rep
     let q = whole::wide(h.query);
     let at = starts[q];
     let none = [0i32; 16];
-    if truth::truth(model, at, 0, &none, 0) {
+    if truth::walk(model, at, 0, &none, 0) {
         return simply(23, at, 0);
     }
     if 1000000 < odometer::total_of(book, h) {
