@@ -50,8 +50,6 @@ fn try_clause(
     requires { ⌜ (before ≤ 1000000) × (count (windows h) (t .clause .variables) ≤ 1000000) ⌝ }
     ensures { λ r. ⌜ told r ≡ clauseAnswer (now (book .entry)) h (now (model .entry)) k before ⌝ }
 {
-    let start = h.start;
-    let front = &book[..start];
     let l = t.clause;
     let n = whole::wide(l.variables);
     let mut left = odometer::count_of(h, l.variables);
@@ -59,7 +57,7 @@ fn try_clause(
     let mut seen = before;
     while 0 < left {
         seen += 1;
-        if parts::breaks_at(front, t, &values, model) {
+        if parts::breaks_at(book, t, &values, model) {
             return Reply {
                 number: 25,
                 place: seen,
