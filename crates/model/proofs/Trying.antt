@@ -60,10 +60,7 @@ module _ (h : Header) (n : ℕ) where
 
 -- ---- what the calls ask
 
-pub front-start : (s : List ℕ) (h : Header) → read s ≡ Good h → h .start ≡ length (take (h .start) s)
-front-start s h good = let k = read-trailed s h good .kept in sym (length-take-le (h .start) s (omega arith))
-
-pub ready-at : (s : List ℕ) (h : Header) (t : List ℕ) (k : ℕ) (task : Task) (vs : List ℤ) → Tasked s h t k task → length vs ≡ 16 → Ready (take (h .start) s) (length vs) t task
+pub ready-at : (s : List ℕ) (h : Header) (t : List ℕ) (k : ℕ) (task : Task) (vs : List ℤ) → Tasked s h t k task → length vs ≡ 16 → Ready s (length vs) t task
 ready-at s h t k task vs w e = rw e (w .ready)
 
 -- ---- what is due: `left` assignments of clause k from vs on, where `seen` were examined before them
@@ -92,7 +89,7 @@ module _ (s : List ℕ) (h : Header) (t : List ℕ) (k : ℕ) where
       rw (w .held .is, variable-window s h c, ← e, a, o)
 
   module _ (task : Task) (left : ℕ) (vs : List ℤ) (seen : ℕ) {n : ℕ} {r : Bool} (w : Tasked s h t k task) (e : n ≡ task .clause .variables)
-      (some : 0 < left) (p : Padded n vs) (q : r ≡ breaksIn (take (h .start) s) t task vs) where
+      (some : 0 < left) (p : Padded n vs) (q : r ≡ breaksIn s t task vs) where
     test : r ≡ breaks b m (step k (take n vs))
     test =
         let z : task .clause .variables < 17 = w .held .sound .few in

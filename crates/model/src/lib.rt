@@ -48,8 +48,6 @@ fn try_clause(
     requires { ⌜ (before ≤ 1000000) × (count (windows h) (t .clause .variables) ≤ 1000000) ⌝ }
     ensures { λ r. ⌜ told r ≡ clauseAnswer (now (book .entry)) h (now (model .entry)) k before ⌝ }
 {
-    let start = h.start;
-    let front = &book[..start];
     let l = t.clause;
     let n = whole::wide(l.variables);
     let mut left = odometer::count_of(h, l.variables);
@@ -57,7 +55,7 @@ fn try_clause(
     let mut seen = before;
     while 0 < left {
         seen += 1;
-        if parts::breaks_at(front, t, &values, model) {
+        if parts::breaks_at(book, t, &values, model) {
             let broken = reply::refuse(25, seen);
             return Reply {
                 answer: broken,
@@ -105,7 +103,7 @@ fn weigh(book: &[u8], h: book::Header, model: &[u8], starts: [usize; 16]) -> Rep
     let q = whole::wide(h.query);
     let at = starts[q];
     let none = [0i32; 16];
-    if truth::truth(model, at, 0, &none, 0) {
+    if truth::walk(model, at, 0, &none, 0) {
         return simply(reply::refuse(23, at), 0);
     }
     if 1000000 < odometer::total_of(book, h) {

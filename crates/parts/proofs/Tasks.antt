@@ -18,6 +18,7 @@ use Rattle.cursor.specs.Tree.{got}
 use Rattle.cursor.specs.Inverse.{pick-by}
 use Rattle.cursor.specs.Meaning.{atomIn, bodyIn, treeIn, clauseIn}
 use Rattle.cursor.specs.Sound.{Sound, Arguments}
+use Rattle.truth.specs.Front.{front-part, front-arguments, front-is-tree, front-tree}
 use Rattle.book.specs.declared.Header.{Header}
 use Rattle.book.specs.declared.Reading.the-variants.{Good}
 use Rattle.book.specs.Read.{read, topArity}
@@ -106,20 +107,23 @@ module _ (s : List ℕ) (h : Header) (good : read s ≡ Good h) where
     front-is r b = let k = read-trailed s h good .kept in getD-take (h .start) s r 0 (omega arith)
 
     module _ (v r seat : ℕ) (few : v ≤ 16) (b : r < h .relations) (a : Arguments front v (seat + 1) (getD front r 0)) where
-      arguments : Arguments front v (seat + 1) (getD s r 0)
-      arguments = rw (front-is r b) at a
+      read-arguments : Arguments front v (seat + 1) (getD s r 0)
+      read-arguments = rw (front-is r b) at a
 
-      side : Side front 16 t seat (getD s r 0) (getD l r 0)
+      arguments : Arguments s v (seat + 1) (getD s r 0)
+      arguments = front-arguments s (h .start) v (seat + 1) (getD s r 0) read-arguments
+
+      side : Side s 16 t seat (getD s r 0) (getD l r 0)
       side =
           let p = part-of r b in
-          record { small = arity-small r b; arguments = arguments-more front v 16 (seat + 1) (getD s r 0) few arguments; tree = rw (p .start) (p .tree) }
+          record { small = arity-small r b; arguments = arguments-more s v 16 (seat + 1) (getD s r 0) few arguments; tree = rw (p .start) (p .tree) }
 
-      side-holds : (vs : List ℤ) → holds (placesOf front seat (getD s r 0) vs) (treeIn t (getD s r 0) (getD l r 0)) ≡ satisfies (rulesIn t ns) (at (take v vs) (atomIn front r seat))
+      side-holds : (vs : List ℤ) → holds (placesOf s seat (getD s r 0) vs) (treeIn t (getD s r 0) (getD l r 0)) ≡ satisfies (rulesIn t ns) (at (take v vs) (atomIn front r seat))
       unfolding satisfies atomIn placesOf
       side-holds vs =
           let p = part-of r b in
           let e : getD (rulesIn t ns) r truth ≡ treeIn t (getD s r 0) (getD l r 0) = rule-of r ∙ p .is ∙ ap (treeIn t (getD s r 0)) (sym (p .start)) in
-          rw (front-is r b, e, places-front front v seat (getD s r 0) vs arguments)
+          rw (front-is r b, e, front-part s (h .start) (seat + 1) (getD s r 0) (read-arguments .within), places-front s v seat (getD s r 0) vs arguments)
 
     -- ---- the task of a clause
 
@@ -148,26 +152,26 @@ module _ (s : List ℕ) (h : Header) (good : read s ≡ Good h) where
       body-half : (c .body ≡ 255 → ⊥) → k .body ≡ record { places = getD s (c .body) 0; rule = getD l (c .body) 0 }
       body-half n = w .body ∙ half-is (c .body) (bodied n .0)
 
-      pub ready : Ready front 16 t k
+      pub ready : Ready s 16 t k
       ready = record {
         few = few;
         room = few;
-        rule = so .tree;
+        rule = front-is-tree s (h .start) (c .variables) (c .rule) (so .tree);
         body = λ n. rw (body-half n) (side (c .variables) (c .body) (c .«body_at») few (bodied n .0) (bodied n .1));
         head = rw head-half (side (c .variables) (c .head) (c .«head_at») few (so .head) (so .arguments));
       }
 
-      met-is : (vs : List ℤ) → metIn front t k vs ≡ met (rulesIn t ns) (atBody (take (c .variables) vs) (bodyIn front (c .body) (c .«body_at»)))
+      met-is : (vs : List ℤ) → metIn s t k vs ≡ met (rulesIn t ns) (atBody (take (c .variables) vs) (bodyIn front (c .body) (c .«body_at»)))
       unfolding metIn bodyIn met pick
       met-is vs = go (eqb (c .body) 255) refl
         where
-          go : (e : Bool) → eqb (c .body) 255 ≡ e → metIn front t k vs ≡ met (rulesIn t ns) (atBody (take (c .variables) vs) (bodyIn front (c .body) (c .«body_at»)))
+          go : (e : Bool) → eqb (c .body) 255 ≡ e → metIn s t k vs ≡ met (rulesIn t ns) (atBody (take (c .variables) vs) (bodyIn front (c .body) (c .«body_at»)))
           go true e = rw e
           go false e =
               let n = eqb-false (c .body) 255 e in
               rw (e, body-half n) (side-holds (c .variables) (c .body) (c .«body_at») few (bodied n .0) (bodied n .1) vs)
 
-      head-is : (vs : List ℤ) → headIn front t k vs ≡ satisfies (rulesIn t ns) (at (take (c .variables) vs) (atomIn front (c .head) (c .«head_at»)))
+      head-is : (vs : List ℤ) → headIn s t k vs ≡ satisfies (rulesIn t ns) (at (take (c .variables) vs) (atomIn front (c .head) (c .«head_at»)))
       unfolding headIn
       head-is vs = rw head-half (side-holds (c .variables) (c .head) (c .«head_at») few (so .head) (so .arguments) vs)
 
@@ -176,9 +180,9 @@ module _ (s : List ℕ) (h : Header) (good : read s ≡ Good h) where
       both true y = refl
       both false y = refl
 
-      breaks-is : (vs : List ℤ) → breaksIn front t k vs ≡ breaks (bookIn s h) (rulesIn t ns) (step i (take (c .variables) vs))
+      breaks-is : (vs : List ℤ) → breaksIn s t k vs ≡ breaks (bookIn s h) (rulesIn t ns) (step i (take (c .variables) vs))
       unfolding breaksIn breaks body head clauseIn
-      breaks-is vs = rw (w .held .is, met-is vs, head-is vs, both, both)
+      breaks-is vs = rw (w .held .is, ← (front-tree s (h .start) (c .variables) (c .rule) (so .tree)), met-is vs, head-is vs, both, both)
 
       pub tasked : Tasked s h t i k
       unfolding bookIn
