@@ -116,6 +116,13 @@ module _ (b : Book) (lim : Limits b) (small : length (encode b) ≤ 60000) (k : 
         two,
       )
 
+-- in a book that was accepted, the constraint of clause k begins right after what is written before it
+pub start-written : (s : List ℕ) → Bytes s → (b : Book) → answer s ≡ accepted b → (k : ℕ) → k < length (b .clauses) →
+    spanOf s k .start ≡ length (writtenBefore b k)
+start-written s bytes b held k below =
+    let (is, lim, small) = accepted-is-written s bytes b held in
+    rw is at (ap (λ (p : Span). p .start) (span-written b lim (rw is small) k below))
+
 -- ---- the part
 
 -- a book b is lent as m, and x is handed out for clause k
@@ -132,14 +139,11 @@ pub part-placed : (m : Lent) → Bytes (m .bytes) → (b : Book) → answer (m .
     (x : Lent) → x ≡ handed m k → Placed m b k x
 unfolding handed
 part-placed m bytes b held k below x e =
-    let (is, lim, small) = accepted-is-written (m .bytes) bytes b held in
     let word : x .bytes ≡ constraintBytes (getD (b .clauses) k none-such .rule) =
     ap (λ (y : Lent). y .bytes) e ∙ handed-bytes m k ∙ part-written (m .bytes) bytes b held k below in
-    let span = span-written b lim (rw is small) k below in
-    let start : spanOf (m .bytes) k .start ≡ length (writtenBefore b k) = rw is at (ap (λ (p : Span). p .start) span) in
     record {
       bytes = word;
-      around = sym is ∙ rw word (writing-split b k below);
+      around = sym (accepted-is-written (m .bytes) bytes b held .0) ∙ rw word (writing-split b k below);
       block = ap (λ (y : Lent). y .block) e;
-      at = ap (λ (y : Lent). y .at) e ∙ ap (λ (n : ℕ). m .at + n) start;
+      at = ap (λ (y : Lent). y .at) e ∙ ap (λ (n : ℕ). m .at + n) (start-written (m .bytes) bytes b held k below);
     }
