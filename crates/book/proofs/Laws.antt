@@ -14,11 +14,15 @@ use mir.Syntax.{w32}
 use mir.Val.{toZ, ofZ, SFits}
 use mir.ValLaws.{toZ-ofZ}
 use Rattle.cursor.specs.declared.Cursor.{Cursor}
-use Rattle.cursor.specs.declared.Refusal.{Refusal}
+use Rattle.reply.specs.declared.Refusal.{Refusal}
 use Rattle.cursor.specs.declared.Step.{Step}
 use Rattle.cursor.specs.declared.Step.the-variants.{Moved, Refused}
-use Rattle.cursor.specs.Steps.{pick, valueThen, stepThen, refuse}
+use Rattle.reply.specs.Answer.{refuse}
+use Rattle.cursor.specs.Steps.{pick, valueThen, stepThen}
 use Rattle.cursor.proofs.Laws as cursors
+use Rattle.reply.specs.declared.Answer as code
+use Rattle.reply.specs.declared.Answer.the-variants as answers
+use Rattle.book.specs.OnBook.{refusedBy}
 use Rattle.book.specs.declared.Header.{Header}
 use Rattle.book.specs.declared.Reading.{Reading}
 use Rattle.book.specs.declared.Reading.the-variants as readings
@@ -93,3 +97,14 @@ pub ruleset ways = (
   clauses-none,
   clauses-more,
 )
+
+-- a reading as an answer
+pub refusal-good : (b : Reading) {h : Header} {x : code.Answer} → b ≡ readings.Good h → x ≡ answers.Done 0 → x ≡ refusedBy b
+unfolding refusedBy
+refusal-good b e q = rw e q
+
+pub refusal-own : (b : Reading) {g : Refusal} {x : code.Answer} → b ≡ readings.Refused g → x ≡ answers.Refused g → x ≡ refusedBy b
+unfolding refusedBy
+refusal-own b e q = rw e q
+
+pub ruleset refusals = (refusal-good, refusal-own)

@@ -6,7 +6,8 @@ use mathlib.Core.List.{List, []}
 use lib.ListN.{length}
 use borrow.Author.Tests.{le-ltb}
 use Rattle.meaning.specs.Book.{Book}
-use Rattle.cursor.specs.Steps.{pick, refuse}
+use Rattle.reply.specs.Answer.{refuse}
+use Rattle.cursor.specs.Steps.{pick}
 use Rattle.book.specs.declared.Header.{Header}
 use Rattle.book.specs.declared.Reading.{Reading}
 use Rattle.book.specs.declared.Reading.the-variants.{Good, Refused}

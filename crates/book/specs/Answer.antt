@@ -16,14 +16,6 @@ unfoldable pub told : List ℕ → Reading → Answer
 told s (Good h) = accepted (bookIn s h)
 told s (Refused r) = refused (r .number) (r .place)
 
-abbrev pub number : Answer → ℕ
-number (accepted b) = 0
-number (refused n p) = n
-
-abbrev pub place : Answer → ℕ
-place (accepted b) = 0
-place (refused n p) = p
-
 -- what document 01 says of these bytes
 unfoldable pub answer : List ℕ → Answer
 answer s = told s (read s)

@@ -8,7 +8,7 @@ use borrow.Author.Tests.{eqb-true}
 use Rattle.whole.specs.Bytes.{u16At}
 use Rattle.meaning.specs.Book as meant
 use Rattle.cursor.specs.declared.Cursor.{Cursor}
-use Rattle.cursor.specs.declared.Refusal.{Refusal}
+use Rattle.reply.specs.declared.Refusal.{Refusal}
 use Rattle.cursor.specs.declared.Step.the-variants.{Moved, Refused}
 use Rattle.cursor.specs.declared.Clause.{Clause}
 use Rattle.cursor.specs.declared.ClauseStep.{ClauseStep}

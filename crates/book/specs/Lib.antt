@@ -2,6 +2,7 @@ pub mod Read
 pub mod Span
 pub mod Meaning
 pub mod Answer
+pub mod OnBook
 pub mod Joined
 pub mod Numbers
 pub mod Accepted

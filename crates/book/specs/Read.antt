@@ -6,10 +6,11 @@ use lib.Dec.{ltb, leb, eqb}
 use lib.Signed.{ltZ}
 use Rattle.whole.specs.Bytes.{u16At, i32At}
 use Rattle.cursor.specs.declared.Cursor.{Cursor}
-use Rattle.cursor.specs.declared.Refusal.{Refusal}
+use Rattle.reply.specs.declared.Refusal.{Refusal}
 use Rattle.cursor.specs.declared.Step.{Step}
 use Rattle.cursor.specs.declared.Step.the-variants.{Moved, Refused}
-use Rattle.cursor.specs.Steps.{pick, refuse, valueThen, byteThen, stepThen, byteAt}
+use Rattle.reply.specs.Answer.{refuse}
+use Rattle.cursor.specs.Steps.{pick, valueThen, byteThen, stepThen, byteAt}
 use Rattle.cursor.specs.Clause.{clauseThen, clauseAt}
 use Rattle.book.specs.declared.Header.{Header}
 use Rattle.book.specs.declared.Reading.{Reading}

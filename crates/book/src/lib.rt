@@ -6,6 +6,7 @@ ghost use Rattle.book.specs.Read.{topArity, arityAt, aritiesAt, recordAt
 ghost use Rattle.book.specs.Span.{absent, spanAt, spanOf};
 ghost use Rattle.whole.specs.Bytes.{u16At};
 ghost use Rattle.book.specs.Answer.{Answers};
+ghost use Rattle.book.specs.OnBook.{refusedBy};
 ghost use Rattle.book.specs.Joined.{Held};
 ghost use Rattle.book.specs.Meaning.{bookIn};
 ghost use Rattle.book.specs.Windows.{Windowed};
@@ -26,7 +27,7 @@ pub struct Header {
 // What reading a book answers: the header of an accepted book, or the refusal.
 pub enum Reading {
     Good(Header),
-    Refused(cursor::Refusal),
+    Refused(reply::Refusal),
 }
 
 // The least and the greatest value that a place or a variable may have.
@@ -49,7 +50,7 @@ impl Header {
         ensures { λ r. ⌜ r ≡ headed self len one zero ⌝ }
     {
         if self.hi < self.lo {
-            Reading::Refused(cursor::Refusal {
+            Reading::Refused(reply::Refusal {
                 number: 2,
                 place: len - 16,
             })
@@ -64,7 +65,7 @@ impl Header {
         requires { ⌜ self .start + self .count * 2 + 16 < 18446744073709551616 ⌝ }
         ensures { λ r. ⌜ r ≡ sized self len one zero ⌝ }
     {
-        let bad = Reading::Refused(cursor::Refusal {
+        let bad = Reading::Refused(reply::Refusal {
             number: 2,
             place: len - 16,
         });
@@ -107,13 +108,13 @@ fn trailer_of(book: &[u8]) -> Reading
 {
     let len = book.len();
     if len < 16 {
-        return Reading::Refused(cursor::Refusal {
+        return Reading::Refused(reply::Refusal {
             number: 1,
             place: 0,
         });
     }
     if 60000 < len {
-        return Reading::Refused(cursor::Refusal {
+        return Reading::Refused(reply::Refusal {
             number: 1,
             place: 0,
         });
@@ -151,7 +152,7 @@ fn arity(c: cursor::Cursor, s: &[u8], q: usize) -> cursor::Step
             if a <= most(c.at, q) {
                 cursor::Step::Moved(next)
             } else {
-                cursor::Step::Refused(cursor::Refusal {
+                cursor::Step::Refused(reply::Refusal {
                     number: 3,
                     place: c.at,
                 })
@@ -192,7 +193,7 @@ fn record_at(c: cursor::Cursor, book: &[u8], start: usize, n: u8, p: usize) -> c
             cursor::ClauseStep::Got(_, next) => cursor::Step::Moved(next),
         }
     } else {
-        cursor::Step::Refused(cursor::Refusal {
+        cursor::Step::Refused(reply::Refusal {
             number: 4,
             place: p,
         })
@@ -229,7 +230,7 @@ fn clauses(
     if here.at == start {
         cursor::Step::Moved(here)
     } else {
-        cursor::Step::Refused(cursor::Refusal {
+        cursor::Step::Refused(reply::Refusal {
             number: 4,
             place: here.at,
         })
@@ -260,6 +261,16 @@ pub fn read_book(book: &[u8]) -> Reading
                 },
             }
         }
+    }
+}
+
+// A reading as a call's answer: a refused book's own refusal.
+pub fn refused_by(b: Reading) -> reply::Answer
+    ensures { λ r. ⌜ r ≡ refusedBy b ⌝ }
+{
+    match b {
+        Reading::Good(_) => reply::Answer::Done(0),
+        Reading::Refused(r) => reply::Answer::Refused(r),
     }
 }
 

@@ -1,3 +1,2 @@
-pub mod Reply
 pub mod Calls
 pub mod Cases

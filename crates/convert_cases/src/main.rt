@@ -8,12 +8,12 @@
 // must be printed is worked out by tests/convert_cases.py.
 ghost use Prim.Native.Nat.{_≤_, _<_};
 
-fn print_outcome(answer: convert::Converted) {
+fn print_outcome(answer: reply::Answer) {
     match answer {
-        convert::Converted::Wrote(n) => {
+        reply::Answer::Done(n) => {
             console::print_answer(0, n);
         }
-        convert::Converted::Refused(r) => {
+        reply::Answer::Refused(r) => {
             console::print_answer(r.number, r.place);
         }
     }

@@ -8,7 +8,7 @@ use mathlib.Core.Bool.{Bool, true, false}
 use lib.Dec.{ltb, leb, eqb}
 use borrow.Author.Tests.{lt-ltb, le-ltb, le-leb, lt-leb, eq-eqb, ne-eqb}
 use Rattle.cursor.specs.declared.Cursor.{Cursor}
-use Rattle.cursor.specs.declared.Refusal.{Refusal}
+use Rattle.reply.specs.declared.Refusal.{Refusal}
 use Rattle.cursor.specs.declared.Byte.{Byte}
 use Rattle.cursor.specs.declared.Byte.the-variants.{Got, Refused}
 use Rattle.cursor.specs.declared.Number as Number
@@ -28,7 +28,8 @@ use Rattle.cursor.specs.declared.ClauseStep.the-variants as clauses
 use Rattle.cursor.specs.declared.NodeStep.{NodeStep}
 use Rattle.cursor.specs.declared.NodeStep.the-variants as node-steps
 use Rattle.cursor.specs.Inverse.{skip-read, relation-read}
-use Rattle.cursor.specs.Steps.{pick, valueThen, byteThen, numberThen, stepThen, nodeThen, kinds, byteAt, nodeAt, variableAt, relationAt, skipAt, refuse}
+use Rattle.reply.specs.Answer.{refuse}
+use Rattle.cursor.specs.Steps.{pick, valueThen, byteThen, numberThen, stepThen, nodeThen, kinds, byteAt, nodeAt, variableAt, relationAt, skipAt}
 
 module _ {A : Type 0} {x : A} where
   pub if-lt : (a b : ℕ) (y z : A) → a < b → x ≡ y → x ≡ pick (ltb a b) y z

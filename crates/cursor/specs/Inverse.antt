@@ -11,7 +11,7 @@ use borrow.Author.Tests.{ltb-true, leb-true, eqb-true, eqb-false}
 use Rattle.whole.specs.Bytes.{u16At}
 use Rattle.meaning.specs.Constraint.{Constraint, truth, at-most, equal, not, and, or, remainder}
 use Rattle.cursor.specs.declared.Cursor.{Cursor}
-use Rattle.cursor.specs.declared.Refusal.{Refusal}
+use Rattle.reply.specs.declared.Refusal.{Refusal}
 use Rattle.cursor.specs.declared.Byte.{Byte}
 use Rattle.cursor.specs.declared.Byte.the-variants as bytes
 use Rattle.cursor.specs.declared.Number as Number

@@ -6,7 +6,8 @@ use lib.ListN.{length, getD}
 use lib.Dec.{ltb, leb, eqb}
 use Rattle.whole.specs.Bytes.{u16At}
 use Rattle.cursor.specs.declared.Cursor.{Cursor}
-use Rattle.cursor.specs.declared.Refusal.{Refusal}
+use Rattle.reply.specs.declared.Refusal.{Refusal}
+use Rattle.reply.specs.Answer.{refuse}
 use Rattle.cursor.specs.declared.Byte.{Byte}
 use Rattle.cursor.specs.declared.Byte.the-variants.{Got, Refused}
 use Rattle.cursor.specs.declared.Number as Number
@@ -47,9 +48,6 @@ stepThen (steps.Refused r) go stop = stop r
 unfoldable pub nodeThen : {A : Type 0} → NodeStep → (Node → Cursor → A) → (Refusal → A) → A
 nodeThen (node-steps.Got n c) go stop = go n c
 nodeThen (node-steps.Refused r) go stop = stop r
-
-abbrev pub refuse : ℕ → ℕ → Refusal
-refuse n p = record { number = n; place = p }
 
 abbrev pub moved : ℕ → Cursor → Cursor
 moved n c = record { at = c .at + n; left = c .left }

@@ -6,7 +6,7 @@ use lib.IntN.{ℤ}
 use Rattle.meaning.specs.Constraint.{Sum, Constraint, truth, at-most, equal, not, and, or, remainder}
 use Rattle.whole.specs.Bytes.{i16At, i32At}
 use Rattle.cursor.specs.declared.Cursor.{Cursor}
-use Rattle.cursor.specs.declared.Refusal.{Refusal}
+use Rattle.reply.specs.declared.Refusal.{Refusal}
 use Rattle.cursor.specs.declared.Step.{Step}
 use Rattle.cursor.specs.declared.Step.the-variants as steps
 use Rattle.cursor.specs.declared.Byte.{Byte}
@@ -16,7 +16,8 @@ use Rattle.cursor.specs.declared.Node.{Node}
 use Rattle.cursor.specs.declared.Node.the-variants.{True, Compare, Not, And, Or, Remainder}
 use Rattle.cursor.specs.declared.NodeStep.{NodeStep}
 use Rattle.cursor.specs.declared.NodeStep.the-variants as node-steps
-use Rattle.cursor.specs.Steps.{byteThen, nodeThen, stepThen, byteAt, nodeAt, refuse}
+use Rattle.reply.specs.Answer.{refuse}
+use Rattle.cursor.specs.Steps.{byteThen, nodeThen, stepThen, byteAt, nodeAt}
 use Rattle.cursor.specs.Walk.{follow, constraintAt}
 
 unfoldable pub coefficientsAt : ℕ → List ℕ → ℕ → List ℤ

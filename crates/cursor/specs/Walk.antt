@@ -6,7 +6,8 @@ use Rattle.cursor.specs.declared.Step.{Step}
 use Rattle.cursor.specs.declared.Step.the-variants.{Moved, Refused}
 use Rattle.cursor.specs.declared.Node.{Node}
 use Rattle.cursor.specs.declared.Node.the-variants.{True, Compare, Not, And, Or, Remainder}
-use Rattle.cursor.specs.Steps.{byteThen, nodeThen, stepThen, byteAt, nodeAt, refuse}
+use Rattle.reply.specs.Answer.{refuse}
+use Rattle.cursor.specs.Steps.{byteThen, nodeThen, stepThen, byteAt, nodeAt}
 
 -- what follows a node, where `read` reads one more
 unfoldable pub follow : Node → (Cursor → Step) → Cursor → Step

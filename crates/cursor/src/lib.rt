@@ -12,28 +12,22 @@ pub struct Cursor {
     pub left: usize,
 }
 
-// Document 01's number of a refusal, and its place.
-pub struct Refusal {
-    pub number: u8,
-    pub place: usize,
-}
-
 // A byte with the cursor past it, or the refusal.
 pub enum Byte {
     Got(u8, Cursor),
-    Refused(Refusal),
+    Refused(reply::Refusal),
 }
 
 // A two-byte number with the cursor past it, or the refusal.
 pub enum Number {
     Got(u16, Cursor),
-    Refused(Refusal),
+    Refused(reply::Refusal),
 }
 
 // A cursor that moved on, or the refusal.
 pub enum Step {
     Moved(Cursor),
-    Refused(Refusal),
+    Refused(reply::Refusal),
 }
 
 // Where a sum's coefficients start.
@@ -67,7 +61,7 @@ pub enum Node {
 // A node with the cursor past it, or the refusal.
 pub enum NodeStep {
     Got(Node, Cursor),
-    Refused(Refusal),
+    Refused(reply::Refusal),
 }
 
 // A clause record's parts, by the places where they start.
@@ -83,7 +77,7 @@ pub struct Clause {
 // A clause record's parts with the cursor past them, or the refusal.
 pub enum ClauseStep {
     Got(Clause, Cursor),
-    Refused(Refusal),
+    Refused(reply::Refusal),
 }
 
 impl Cursor {
@@ -101,7 +95,7 @@ impl Cursor {
                 },
             )
         } else {
-            Byte::Refused(Refusal {
+            Byte::Refused(reply::Refusal {
                 number: 8,
                 place: s.len(),
             })
@@ -118,7 +112,7 @@ impl Cursor {
                 if b < n {
                     Byte::Got(b, c)
                 } else {
-                    Byte::Refused(Refusal {
+                    Byte::Refused(reply::Refusal {
                         number: number,
                         place: self.at,
                     })
@@ -154,7 +148,7 @@ impl Cursor {
                 });
             }
         }
-        Step::Refused(Refusal {
+        Step::Refused(reply::Refusal {
             number: 8,
             place: s.len(),
         })
@@ -189,7 +183,7 @@ impl Cursor {
                         },
                     )
                 } else {
-                    Byte::Refused(Refusal {
+                    Byte::Refused(reply::Refusal {
                         number: 7,
                         place: self.at,
                     })
@@ -215,7 +209,7 @@ impl Cursor {
                 Number::Refused(r) => NodeStep::Refused(r),
                 Number::Got(d, c2) => {
                     if d == 0 {
-                        return NodeStep::Refused(Refusal {
+                        return NodeStep::Refused(reply::Refusal {
                             number: 7,
                             place: c.at,
                         });
@@ -233,7 +227,7 @@ impl Cursor {
                                     c3,
                                 )
                             } else {
-                                NodeStep::Refused(Refusal {
+                                NodeStep::Refused(reply::Refusal {
                                     number: 7,
                                     place: c2.at,
                                 })
@@ -269,7 +263,7 @@ impl Cursor {
                 4 => NodeStep::Got(Node::And, c),
                 5 => NodeStep::Got(Node::Or, c),
                 6 => c.remains(s, v),
-                _ => NodeStep::Refused(Refusal {
+                _ => NodeStep::Refused(reply::Refusal {
                     number: 7,
                     place: self.at,
                 }),
@@ -284,7 +278,7 @@ impl Cursor {
         if depth == 0 {
             return match self.byte(s) {
                 Byte::Refused(r) => Step::Refused(r),
-                Byte::Got(_, _) => Step::Refused(Refusal {
+                Byte::Got(_, _) => Step::Refused(reply::Refusal {
                     number: 7,
                     place: self.at,
                 }),

@@ -19,8 +19,8 @@ use Rattle.book.specs.Read.{sized, headed, trailer, readingThen, topArity, arit
 use Rattle.book.specs.Meaning.{upTo, bookIn}
 use Rattle.book.specs.Meaning as held
 use Rattle.book.specs.Answer as books
-use Rattle.lists.specs.Answer as lists
-use Rattle.lists.specs.Answer.{need, andThen}
+use Rattle.reply.specs.Answer as reply
+use Rattle.reply.specs.Answer.{need, andThen}
 use Rattle.lists.specs.Compare.{eqZ, eqVals, same, inside, allIn, firstOut, firstDiff}
 use Rattle.lists.specs.Instance.{clauseNumber, judgeClause, judge, judgeEnabled}
 use Rattle.lists.specs.Walker as walkers
@@ -54,8 +54,8 @@ byte i v = set bookB i v
 abbrev reading : List ℕ → ℕ × ℕ
 reading s = (books.number (books.answer s), books.place (books.answer s))
 
-abbrev listed : lists.Answer → ℕ × ℕ
-listed a = (lists.number a, lists.place a)
+abbrev listed : reply.Answer → ℕ × ℕ
+listed a = (reply.number a, reply.place a)
 
 abbrev derivation : List ℕ → List ℤ → ℕ × ℕ
 derivation s l = listed (derivations.answer s l 1 [])

@@ -27,8 +27,8 @@ use Rattle.encode.specs.Stands.{Bytes}
 use Rattle.encode.specs.Small.{encode-bytes}
 use Rattle.encode.specs.Part.{part-written, constraint-some}
 use Rattle.encode.specs.Exact as exact
-use Rattle.lists.specs.Answer as lists
-use Rattle.lists.specs.Answer.{ok}
+use Rattle.reply.specs.Answer as reply
+use Rattle.reply.specs.Answer.{ok}
 use Rattle.lists.specs.Convert.{Reply}
 use Rattle.lists.specs.Derivation.{checkDerivation}
 use Rattle.lists.specs.Trace.{checkTrace}
@@ -162,8 +162,8 @@ demand-1-in-c s = record {
   one-text = λ d e e′ r q r′ q′. kit.one-written;
   same-book = λ r q x u h. (u .number ∙ sym (ap books.number (h .tells)), u .place ∙ sym (ap books.place (h .tells)));
   same-constraint = λ k r q x u h. part-handed u ∙ sym h;
-  same-derivation = λ l g r q x u h. (u .number ∙ sym (ap lists.number (h .tells)), u .place ∙ sym (ap lists.place (h .tells)));
-  same-trace = λ l g r q x u h. (u .number ∙ sym (ap lists.number (h .tells)), u .place ∙ sym (ap lists.place (h .tells)));
+  same-derivation = λ l g r q x u h. (u .number ∙ sym (ap reply.number (h .tells)), u .place ∙ sym (ap reply.place (h .tells)));
+  same-trace = λ l g r q x u h. (u .number ∙ sym (ap reply.number (h .tells)), u .place ∙ sym (ap reply.place (h .tells)));
   same-model = λ m r q n k v x u h.
       let e = sym (h .tells) in (
         u .number ∙ ap (λ (a : Answer). a .number) e,

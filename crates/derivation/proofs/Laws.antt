@@ -8,24 +8,24 @@ use mathlib.Core.Bool.{Bool, true, false}
 use lib.ListN.{length, take, drop}
 use lib.IntN.{ℤ}
 use Rattle.meaning.specs.Book.{Book, Fact, body, head}
-use Rattle.lists.specs.Answer.{need, andThen}
+use Rattle.reply.specs.Answer.{need, andThen}
 use Rattle.lists.specs.Compare.{same}
 use Rattle.lists.specs.Instance.{stepAt, judgeEnabled}
 use Rattle.lists.specs.Derivation.{judgeStep, check}
 use Rattle.lists.specs.Due.{due, due-all, due-none, due-more}
-use Rattle.cursor.specs.declared.Refusal.{Refusal}
+use Rattle.reply.specs.declared.Refusal.{Refusal}
 use Rattle.cursor.specs.declared.Clause.{Clause}
-use Rattle.cursor.specs.Steps.{refuse}
+use Rattle.reply.specs.Answer.{refuse}
 use Rattle.book.specs.declared.Header.{Header}
 use Rattle.book.specs.declared.Reading.the-variants as readings
 use Rattle.book.specs.Read.{read}
 use Rattle.book.specs.Meaning.{bookIn}
 use Rattle.book.specs.Trailer.{read-trailed}
 use Rattle.book.proofs.Good.{good-holds}
-use Rattle.facts.specs.declared.Answer.{Answer}
-use Rattle.facts.specs.declared.Answer.the-variants.{Accepted, Refused}
+use Rattle.reply.specs.declared.Answer.{Answer}
+use Rattle.reply.specs.declared.Answer.the-variants.{Done, Refused}
 use Rattle.facts.specs.declared.Place.{Place}
-use Rattle.facts.specs.Answer.{told}
+use Rattle.reply.specs.Answer.{told}
 use Rattle.facts.specs.Place.{bodyPlace, headPlace, Seated}
 use Rattle.facts.specs.declared.Instance.{Instance}
 use Rattle.facts.specs.declared.Instance.the-variants as instances
@@ -90,7 +90,7 @@ module _ (s : List ℕ) (h : Header) (l : List ℤ) (i : ℕ) (o : Option Fact) 
 -- ---- the end
 
 module _ (o : Option Fact) (f : Fact) (n : ℕ) {x : Answer} {r : Bool} where
-  pub end-met : r ≡ same o (some f) → r ≡ true → x ≡ Accepted → x ≡ told (ends o f n)
+  pub end-met : r ≡ same o (some f) → r ≡ true → x ≡ Done 0 → x ≡ told (ends o f n)
   unfolding ends
   end-met p q e = need-yes 17 n _ _ p q (ends-well e)
 

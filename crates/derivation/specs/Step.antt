@@ -6,7 +6,7 @@ use mathlib.Core.Option.{Option, some}
 use lib.ListN.{length, take, drop}
 use lib.IntN.{ℤ}
 use Rattle.meaning.specs.Book.{Fact, head}
-use Rattle.lists.specs.Answer.{Answer, ok, refused, need}
+use Rattle.reply.specs.Answer.{Answer, ok, refused, need}
 use Rattle.lists.specs.Compare.{same}
 use Rattle.lists.specs.Instance.{clauseAt, stepAt}
 use Rattle.lists.specs.Derivation.{judgeStep}

@@ -6,7 +6,7 @@ ghost use Rattle.lists.specs.Derivation.{check as checkList, checkDerivation, g
 ghost use Rattle.book.specs.Read.{read};
 ghost use Rattle.book.specs.Meaning.{bookIn};
 ghost use Rattle.book.specs.declared.Reading.the-variants.{Good};
-ghost use Rattle.facts.specs.Answer.{told, Answers};
+ghost use Rattle.reply.specs.Answer.{told, Answers};
 ghost use Rattle.facts.specs.Place.{Seated};
 ghost use Rattle.derivation.specs.Step.{factAt, ends, Steps};
 ghost use Rattle.derivation.specs.Answer.{answer};
@@ -14,7 +14,7 @@ ghost use Rattle.derivation.specs.Answer.{answer};
 // What one step answers: where its head stands, or the refusal.
 pub enum Stepped {
     Head(facts::Place),
-    Refused(cursor::Refusal),
+    Refused(reply::Refusal),
 }
 
 // 12 to 16: the step that begins at i, where the fact just before it stands at `last`
@@ -30,7 +30,7 @@ fn step_at(book: &[u8], h: book::Header, list: &[i32], i: usize, last: facts::Pl
             if facts::same_fact(&book[..start], list, facts::body_of(l, i + 1), last) {
                 Stepped::Head(facts::head_of(l, i + 1))
             } else {
-                Stepped::Refused(cursor::Refusal {
+                Stepped::Refused(reply::Refusal {
                     number: 16,
                     place: i,
                 })
@@ -47,7 +47,7 @@ fn ended(
     last: facts::Place,
     relation: usize,
     values: &[i32],
-) -> facts::Answer
+) -> reply::Answer
     requires { ⌜ read (now book) ≡ Good h ⌝ }
     requires { ⌜ (relation < h .relations) × (length (now values) ≡ getD (now book) relation 0) ⌝ }
     requires { ⌜ Seated (take (h .start) (now book)) (length (now list)) last ⌝ }
@@ -55,9 +55,9 @@ fn ended(
 {
     let start = h.start;
     if facts::reached(&book[..start], list, last, relation, values) {
-        facts::Answer::Accepted
+        reply::Answer::Done(0)
     } else {
-        facts::refuse(17, list.len())
+        reply::refuse(17, list.len())
     }
 }
 
@@ -68,7 +68,7 @@ fn walk(
     list: &[i32],
     relation: usize,
     values: &[i32],
-) -> facts::Answer
+) -> reply::Answer
     requires { ⌜ read (now book) ≡ Good h ⌝ }
     requires { ⌜ (relation < h .relations) × (length (now values) ≡ getD (now book) relation 0) ⌝ }
     ensures { λ r. ⌜ r ≡ told (checkList (bookIn (now (book .entry)) h) (goal relation (now (values .entry))) (now (list .entry))) ⌝ }
@@ -82,7 +82,7 @@ fn walk(
     };
     while i < list.len() {
         match step_at(book, h, list, i, last) {
-            Stepped::Refused(r) => return facts::Answer::Refused(r),
+            Stepped::Refused(r) => return reply::Answer::Refused(r),
             Stepped::Head(p) => {
                 last = p;
                 i = p.from + (p.many as usize);
@@ -99,26 +99,26 @@ pub fn check_in(
     list: &[i32],
     relation: usize,
     values: &[i32],
-) -> facts::Answer
+) -> reply::Answer
     requires { ⌜ read (now book) ≡ Good h ⌝ }
     ensures { λ r. ⌜ r ≡ told (checkDerivation (bookIn (now (book .entry)) h) relation (now (values .entry)) (now (list .entry))) ⌝ }
 {
     match facts::judged_goal(book, h, relation, values) {
-        facts::Answer::Refused(r) => facts::Answer::Refused(r),
-        facts::Answer::Accepted => match facts::judged_length(list) {
-            facts::Answer::Refused(r) => facts::Answer::Refused(r),
-            facts::Answer::Accepted => walk(book, h, list, relation, values),
+        reply::Answer::Refused(r) => reply::Answer::Refused(r),
+        reply::Answer::Done(_) => match facts::judged_length(list) {
+            reply::Answer::Refused(r) => reply::Answer::Refused(r),
+            reply::Answer::Done(_) => walk(book, h, list, relation, values),
         },
     }
 }
 
 // Whether a list is a derivation of the goal, a relation and its values, in the book that the bytes hold: the answer for any input.
-pub fn check(book: &[u8], list: &[i32], relation: usize, values: &[i32]) -> facts::Answer
+pub fn check(book: &[u8], list: &[i32], relation: usize, values: &[i32]) -> reply::Answer
     ensures { λ r. ⌜ Answers (answer (now (book .entry)) (now (list .entry)) relation (now (values .entry))) r ⌝ }
 {
     let read = book::read_book(book);
     let book::Reading::Good(h) = read else {
-        return facts::refused_by(read);
+        return book::refused_by(read);
     };
     check_in(book, h, list, relation, values)
 }

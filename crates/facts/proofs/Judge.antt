@@ -13,15 +13,17 @@ use borrow.Author.Tests.{lt-ltb, le-ltb, le-leb, lt-leb, eq-eqb, ne-eqb}
 use Rattle.meaning.specs.Constraint.{holds}
 use Rattle.meaning.specs.Book as meant
 use Rattle.meaning.specs.Book.{Window, variableWindow}
-use Rattle.lists.specs.Answer as lists
-use Rattle.lists.specs.Answer.{need}
+use Rattle.reply.specs.Answer as reply
+use Rattle.reply.specs.Answer.{need}
 use Rattle.lists.specs.Compare.{inside, allIn, firstOut}
 use Rattle.lists.specs.Instance.{clauseNumber, clauseAt, judgeClause, judge}
 use Rattle.lists.specs.Derivation.{judgeGoal, judgeLength}
+use Rattle.reply.specs.Among.{told-ok, told-no}
+use Rattle.lists.specs.Among.{among-judge}
 use Rattle.lists.specs.Laws.{judge-exact}
-use Rattle.cursor.specs.declared.Refusal.{Refusal}
+use Rattle.reply.specs.declared.Refusal.{Refusal}
 use Rattle.cursor.specs.declared.Clause.{Clause}
-use Rattle.cursor.specs.Steps.{refuse}
+use Rattle.reply.specs.Answer.{refuse}
 use Rattle.cursor.specs.Meaning.{treeIn, clauseIn}
 use Rattle.cursor.specs.Sound.{IsTree, Sound}
 use Rattle.truth.specs.Front.{front-is-tree, front-tree}
@@ -32,18 +34,18 @@ use Rattle.book.specs.Read.{read}
 use Rattle.book.specs.Meaning.{bookIn}
 use Rattle.book.specs.Joined.{Held, count-is}
 use Rattle.book.specs.Trailer.{read-trailed}
-use Rattle.facts.specs.declared.Answer.{Answer}
-use Rattle.facts.specs.declared.Answer.the-variants.{Accepted, Refused}
+use Rattle.reply.specs.declared.Answer.{Answer}
+use Rattle.reply.specs.declared.Answer.the-variants.{Done, Refused}
 use Rattle.facts.specs.declared.Instance.{Instance}
 use Rattle.facts.specs.declared.Instance.the-variants as instances
-use Rattle.facts.specs.Answer.{told, refusalOf}
+use Rattle.reply.specs.Answer.{told}
 use Rattle.facts.specs.Instance.{windows, numberOr, numberIn, Judged}
 use Rattle.facts.proofs.Laws.{out-nil, out-in, out-out}
 use Rattle.facts.proofs.Windows.{variable-window}
 
 -- ---- a test, passed or failed
 
-module _ (n i : ℕ) (a : lists.Answer) {x : Answer} where
+module _ (n i : ℕ) (a : reply.Answer) {x : Answer} where
   pub need-yes : (t : Bool) {r : Bool} → r ≡ t → r ≡ true → x ≡ told a → x ≡ told (need t n i a)
   unfolding need
   need-yes t p q e = rw (sym p ∙ q) e
@@ -70,19 +72,9 @@ module _ (n i : ℕ) (a : lists.Answer) {x : Answer} where
   pub need-ne : (k m : ℕ) → (k ≡ m → ⊥) → x ≡ Refused (refuse n i) → x ≡ told (need (eqb k m) n i a)
   need-ne k m h e = need-no (eqb k m) (sym (ne-eqb k m h)) refl e
 
-pub ends-well : {x : Answer} → x ≡ Accepted → x ≡ told lists.ok
+pub ends-well : {x : Answer} → x ≡ Done 0 → x ≡ told reply.ok
 unfolding told
 ends-well e = e
-
-pub refusal-good : (b : Reading) {h : Header} {x : Answer} → b ≡ readings.Good h → x ≡ Accepted → x ≡ refusalOf b
-unfolding refusalOf
-refusal-good b e q = rw e q
-
-pub refusal-own : (b : Reading) {g : Refusal} {x : Answer} → b ≡ readings.Refused g → x ≡ Refused g → x ≡ refusalOf b
-unfolding refusalOf
-refusal-own b e q = rw e q
-
-pub ruleset refusals = (refusal-good, refusal-own)
 
 -- ---- the goal
 
@@ -112,7 +104,7 @@ module _ (s : List ℕ) (h : Header) (r : ℕ) (vs : List ℤ) {w : ℕ} {x : An
   goal-wrong good v k u n e = need-lt 10 0 _ r _ (omega (arith, relations-are s h good))
       (need-ne 10 0 _ (length vs) _ (λ z. n (z ∙ arity-is s h r (omega arith) ∙ sym u)) e)
 
-  pub goal-fits : {m : ℕ} → read s ≡ readings.Good h → w ≡ h .relations → r < w → m ≡ getD s r 0 → length vs ≡ m → x ≡ Accepted →
+  pub goal-fits : {m : ℕ} → read s ≡ readings.Good h → w ≡ h .relations → r < w → m ≡ getD s r 0 → length vs ≡ m → x ≡ Done 0 →
       x ≡ told (judgeGoal (bookIn s h) r vs)
   unfolding judgeGoal
   goal-fits good v k u n e = need-lt 10 0 _ r _ (omega (arith, relations-are s h good))
@@ -131,7 +123,7 @@ module _ (l : List ℤ) {x : Answer} where
   unfolding judgeLength
   list-long z k e = need-lt 11 0 _ 0 (length l) (omega arith) (need-gt 11 0 _ (length l) 1000000 k e)
 
-  pub list-fits : (length l ≡ 0 → ⊥) → length l ≤ 1000000 → x ≡ Accepted → x ≡ told (judgeLength l)
+  pub list-fits : (length l ≡ 0 → ⊥) → length l ≤ 1000000 → x ≡ Done 0 → x ≡ told (judgeLength l)
   unfolding judgeLength
   list-fits z k e = need-lt 11 0 _ 0 (length l) (omega arith) (need-le 11 0 _ (length l) 1000000 k (ends-well e))
 
@@ -140,7 +132,7 @@ pub ruleset lengths = (list-empty, list-long, list-fits)
 -- ---- one instance
 
 -- v values from j on and `more` numbers after them are there: the code's two tests, whose w is v
-module _ (n i : ℕ) (a : lists.Answer) (l : List ℤ) (j v more : ℕ) {w : ℕ} {x : Answer} where
+module _ (n i : ℕ) (a : reply.Answer) (l : List ℤ) (j v more : ℕ) {w : ℕ} {x : Answer} where
   pub need-room : w ≡ v → w ≤ length l - j → more ≤ length l - j - w → x ≡ told a → x ≡ told (need (leb (v + more) (length (drop j l))) n i a)
   need-room p h k e = need-le n i a (v + more) (length (drop j l)) (omega (arith, length-drop j l)) e
 
@@ -169,7 +161,7 @@ some-by w (v ∷ vs) j h = go (inside (w 0) v) refl (λ k. some-by (λ i. w (suc
     go true e ih = ap (λ (b : Bool). b && allIn (λ i. w (suc i)) vs) e ∙ ih (let k : firstOut w j (v ∷ vs) ≡ firstOut (λ i. w (suc i)) (suc j) vs = out-in w v vs j e in omega arith)
     go false e ih = ap (λ (b : Bool). b && allIn (λ i. w (suc i)) vs) e
 
-module _ (s : List ℕ) (h : Header) (c : meant.Clause) (n : ℕ) (a : lists.Answer) (l : List ℤ) (i v : ℕ) {x : Answer} {out w : ℕ} where
+module _ (s : List ℕ) (h : Header) (c : meant.Clause) (n : ℕ) (a : reply.Answer) (l : List ℤ) (i v : ℕ) {x : Answer} {out w : ℕ} where
   pub need-in : (p : ℕ) → w ≡ v → w ≤ length l - (i + 1) → i < length l → out ≡ firstOut (windows h) (i + 1) (take w (drop (i + 1) l)) → i + 1 + w ≤ out → x ≡ told a →
       x ≡ told (need (allIn (variableWindow (bookIn s h) c) (take v (drop (i + 1) l))) n p a)
   need-in p q g k o m e =
@@ -200,16 +192,6 @@ unfolding clauseNumber numberOr
 number-is s h (pos k) good = refl
 number-is s h (negsuc n) good = count-is s h good
 
-pub told-ok : (a : lists.Answer) → told a ≡ Accepted → a ≡ lists.ok
-unfolding told
-told-ok lists.ok e = refl
-told-ok (lists.refused n i) e = absurd (let z : _≡_ {A = ℕ} 0 1 = cc in let w : ⊥ = omega arith in w)
-
-pub told-no : (a : lists.Answer) (g : Refusal) → told a ≡ Refused g → a ≡ lists.refused (g .number) (g .place)
-unfolding told
-told-no lists.ok g e = absurd (let z : _≡_ {A = ℕ} 0 1 = cc in let w : ⊥ = omega arith in w)
-told-no (lists.refused n i) g e = let z : refuse n i ≡ g = cc in rw (← z)
-
 module _ (s : List ℕ) (h : Header) (l : List ℤ) (i more : ℕ) {k : ℕ} (good : read s ≡ readings.Good h) (q : k ≡ numberOr (h .count) (getD l i (pos 0))) where
   same-number : numberIn s h l i ≡ k
   same-number = number-is s h (getD l i (pos 0)) good ∙ sym q
@@ -232,11 +214,11 @@ module _ (s : List ℕ) (h : Header) (l : List ℤ) (i more : ℕ) {k : ℕ} (go
     unfolding Judged
     judged-stop x {r} {g} p z e = rw e (opened ∙ told-no _ g (sym p ∙ z))
 
-    pub judged-good : (x : Instance) {r : Answer} → i < length l → r ≡ told (judgeClause (bookIn s h) (clauseIn (take (h .start) s) c) more (drop (i + 1) l) i) → r ≡ Accepted →
+    pub judged-good : (x : Instance) {r : Answer} {n : ℕ} → i < length l → r ≡ told (judgeClause (bookIn s h) (clauseIn (take (h .start) s) c) more (drop (i + 1) l) i) → r ≡ Done n →
         x ≡ instances.Good c → Judged s h l i more x
     unfolding Judged
     judged-good x there p z e =
-        let yes : judge (bookIn s h) (numberIn s h l i) more (drop (i + 1) l) i ≡ lists.ok = opened ∙ told-ok _ (sym p ∙ z) in
+        let yes : judge (bookIn s h) (numberIn s h l i) more (drop (i + 1) l) i ≡ reply.ok = told-ok _ (among-judge (bookIn s h) (numberIn s h l i) more (drop (i + 1) l) i) (ap told opened ∙ sym p ∙ z) in
         let room : clauseAt (bookIn s h) k .vars + more ≤ length (drop (i + 1) l) = judge-exact (bookIn s h) k more (drop (i + 1) l) i .0 (rw same-number at yes) .1 in
         rw e (record { judged = yes; held = rw same-number w; room = omega (arith, room, vars-are, length-drop (i + 1) l) })
 

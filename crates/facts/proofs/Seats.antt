@@ -12,34 +12,33 @@ use lib.IntN.{ℤ}
 use borrow.Author.Tests.{ne-eqb}
 use Rattle.meaning.specs.Book as meant
 use Rattle.meaning.specs.Book.{head, body}
-use Rattle.lists.specs.Answer as lists
-use Rattle.lists.specs.Answer.{andThen}
+use Rattle.reply.specs.Answer as reply
+use Rattle.reply.specs.Answer.{andThen}
 use Rattle.lists.specs.Instance.{clauseAt, stepAt, judge}
 use Rattle.lists.specs.Derivation.{judgeGoal}
-use Rattle.lists.specs.Laws.{need-ok}
-use Rattle.cursor.specs.declared.Refusal.{Refusal}
+use Rattle.reply.specs.Among.{need-ok, told-done, told-no}
+use Rattle.reply.specs.declared.Refusal.{Refusal}
 use Rattle.cursor.specs.declared.Clause.{Clause}
 use Rattle.cursor.specs.Steps.{pick}
 use Rattle.cursor.specs.Meaning.{bodyIn, clauseIn}
 use Rattle.cursor.specs.Sound.{Sound, Arguments}
 use Rattle.book.specs.declared.Header.{Header}
-use Rattle.book.specs.declared.Reading.{Reading}
 use Rattle.book.specs.declared.Reading.the-variants as readings
 use Rattle.book.specs.Read.{read}
-use Rattle.book.specs.Answer as books
 use Rattle.book.specs.Meaning.{bookIn}
 use Rattle.book.specs.Joined.{Held}
 use Rattle.book.specs.Trailer.{read-trailed}
 use Rattle.book.proofs.Good.{good-front}
-use Rattle.facts.specs.declared.Answer.{Answer}
-use Rattle.facts.specs.declared.Answer.the-variants.{Accepted, Refused}
+use Rattle.book.proofs.Calls.{calls}
+use Rattle.reply.specs.declared.Answer.{Answer}
+use Rattle.reply.specs.declared.Answer.the-variants.{Done, Refused}
 use Rattle.facts.specs.declared.Instance.{Instance}
 use Rattle.facts.specs.declared.Instance.the-variants as instances
 use Rattle.facts.specs.declared.Place.{Place}
-use Rattle.facts.specs.Answer.{told, afterBook, onBook, refusalOf}
+use Rattle.reply.specs.Answer.{told}
 use Rattle.facts.specs.Place.{factIn, bodyPlace, headPlace, Seated}
 use Rattle.facts.specs.Instance.{numberIn, Stands, Judged}
-use Rattle.facts.proofs.Judge.{told-ok, told-no, relations-are, arity-is}
+use Rattle.facts.proofs.Judge.{relations-are, arity-is}
 
 -- ---- places are seated
 
@@ -80,23 +79,23 @@ module _ (s : List ℕ) (h : Header) (l : List ℤ) (i more : ℕ) (x : Instance
   stands c w e = rw e at w
 
   pub stopped : (g : Refusal) → Judged s h l i more x → x ≡ instances.Refused g →
-      judge (bookIn s h) (numberIn s h l i) more (drop (i + 1) l) i ≡ lists.refused (g .number) (g .place)
+      judge (bookIn s h) (numberIn s h l i) more (drop (i + 1) l) i ≡ reply.refused (g .number) (g .place)
   unfolding Judged
   stopped g w e = rw e at w
 
 -- ---- a goal that was accepted
 
-module _ (s : List ℕ) (h : Header) (r : ℕ) (vs : List ℤ) {y : Answer} (good : read s ≡ readings.Good h) (p : y ≡ told (judgeGoal (bookIn s h) r vs)) (q : y ≡ Accepted) where
+module _ (s : List ℕ) (h : Header) (r : ℕ) (vs : List ℤ) {y : Answer} {n : ℕ} (good : read s ≡ readings.Good h) (p : y ≡ told (judgeGoal (bookIn s h) r vs)) (q : y ≡ Done n) where
   pub goal-below : r < h .relations
   unfolding judgeGoal
   goal-below =
-      let (t, e) = need-ok _ _ _ _ .0 (told-ok _ (sym p ∙ q)) in
+      let (t, e) = need-ok _ _ _ _ .0 (told-done _ (sym p ∙ q)) in
       omega (arith, ltb→lt r (length (bookIn s h .arities)) t, relations-are s h good)
 
   pub goal-full : length vs ≡ getD s r 0
   unfolding judgeGoal
   goal-full =
-      let (t, e) = need-ok _ _ _ _ .0 (told-ok _ (sym p ∙ q)) in
+      let (t, e) = need-ok _ _ _ _ .0 (told-done _ (sym p ∙ q)) in
       let (u, _) = need-ok _ _ _ _ .0 e in
       eqb→eq (length vs) (getD (bookIn s h .arities) r 0) u ∙ arity-is s h r goal-below
 
@@ -115,25 +114,13 @@ module _ (s : List ℕ) (h : Header) where
 
 -- ---- one part of an answer after another
 
-module _ (a b : lists.Answer) {x : Answer} where
+module _ (a b : reply.Answer) {x : Answer} where
   pub then-stop : {r : Answer} {g : Refusal} → r ≡ told a → r ≡ Refused g → x ≡ Refused g → x ≡ told (andThen a b)
   unfolding told andThen
   then-stop {r} {g} p q e = rw (told-no a g (sym p ∙ q)) e
 
-  pub then-on : {r : Answer} → r ≡ told a → r ≡ Accepted → x ≡ told b → x ≡ told (andThen a b)
+  pub then-on : {r : Answer} {n : ℕ} → r ≡ told a → r ≡ Done n → x ≡ told b → x ≡ told (andThen a b)
   unfolding andThen
-  then-on p q e = rw (told-ok a (sym p ∙ q)) e
+  then-on p q e = rw (told-done a (sym p ∙ q)) e
 
-pub book-good : (s : List ℕ) (h : Header) {r : Reading} → books.Answers s r → r ≡ readings.Good h → read s ≡ readings.Good h
-book-good s h p q = sym (p .is) ∙ q
-
-module _ (s : List ℕ) (f : meant.Book → lists.Answer) {r : Reading} {x : Answer} where
-  pub book-stop : {g : Refusal} → books.Answers s r → r ≡ readings.Refused g → x ≡ refusalOf r → x ≡ told (onBook s f)
-  unfolding onBook afterBook books.answer books.told refusalOf told
-  book-stop p q e = rw (sym (p .is) ∙ q) (rw q at e)
-
-  pub book-on : {h : Header} → books.Answers s r → r ≡ readings.Good h → x ≡ told (f (bookIn s h)) → x ≡ told (onBook s f)
-  unfolding onBook afterBook books.answer books.told
-  book-on p q e = rw (sym (p .is) ∙ q) e
-
-pub ruleset sequences = (then-stop, then-on, book-stop, book-on)
+pub ruleset sequences = (then-stop, then-on, calls)

@@ -5,7 +5,7 @@ use mathlib.Core.List.{List}
 use lib.ListN.{length, getD, drop}
 use lib.IntN.{ℤ, pos, negsuc}
 use Rattle.meaning.specs.Book.{Window}
-use Rattle.lists.specs.Answer.{ok, refused}
+use Rattle.reply.specs.Answer.{ok, refused}
 use Rattle.lists.specs.Instance.{clauseNumber, judge}
 use Rattle.cursor.specs.declared.Clause.{Clause}
 use Rattle.book.specs.declared.Header.{Header}

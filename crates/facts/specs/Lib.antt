@@ -1,5 +1,3 @@
-pub mod Answer
 pub mod Place
 pub mod Instance
 pub mod Example
-pub mod OnBook

@@ -1,4 +1,4 @@
-// What the checks of lists share: their answer, facts by where they stand, and the judging of one instance, of the goal and of the list's length.
+// What the checks of lists share: facts by where they stand, and the judging of one instance, of the goal and of the list's length.
 ghost use mathlib.Core.Path.{_≡_};
 ghost use mathlib.Core.Option.{some};
 ghost use Prim.Native.Nat.{_+_, _<_, _≤_};
@@ -7,22 +7,14 @@ ghost use lib.IntN.{pos};
 ghost use Rattle.lists.specs.Compare.{eqZ, eqVals, same, inside, firstOut};
 ghost use Rattle.lists.specs.Instance.{judgeClause};
 ghost use Rattle.lists.specs.Derivation.{judgeGoal, judgeLength, goal};
-ghost use Rattle.cursor.specs.Steps.{refuse as refusal};
 ghost use Rattle.cursor.specs.Meaning.{clauseIn};
 ghost use Rattle.cursor.specs.Sound.{Sound};
 ghost use Rattle.book.specs.Read.{read};
 ghost use Rattle.book.specs.Meaning.{bookIn};
 ghost use Rattle.book.specs.declared.Reading.the-variants.{Good};
-ghost use Rattle.facts.specs.Answer.{told, refusalOf};
+ghost use Rattle.reply.specs.Answer.{told};
 ghost use Rattle.facts.specs.Place.{factIn, valuesIn, bodyPlace, headPlace, Fixed, Sits, Seated};
 ghost use Rattle.facts.specs.Instance.{windowOf, windows, numberOr, Judged};
-ghost use Rattle.facts.specs.declared.Answer.the-variants.{Refused};
-
-// What a check answers: accepted, or the refusal.
-pub enum Answer {
-    Accepted,
-    Refused(cursor::Refusal),
-}
 
 // A fact by where it stands: a relation (255 for none), its seat in the book with the arguments after it,
 // and where the `many` values of its variables stand in the list.
@@ -36,27 +28,7 @@ pub struct Place {
 // What judging an instance answers: its clause, or the refusal.
 pub enum Instance {
     Good(cursor::Clause),
-    Refused(cursor::Refusal),
-}
-
-// The refusal with this number at this place.
-pub fn refuse(number: u8, place: usize) -> Answer
-    ensures { λ r. ⌜ r ≡ Refused (refusal number place) ⌝ }
-{
-    Answer::Refused(cursor::Refusal {
-        number: number,
-        place: place,
-    })
-}
-
-// A refused book's own refusal.
-pub fn refused_by(b: book::Reading) -> Answer
-    ensures { λ r. ⌜ r ≡ refusalOf b ⌝ }
-{
-    match b {
-        book::Reading::Good(_) => Answer::Accepted,
-        book::Reading::Refused(r) => Answer::Refused(r),
-    }
+    Refused(reply::Refusal),
 }
 
 // ---- numbers of a list
@@ -222,31 +194,31 @@ pub fn reached(s: &[u8], list: &[i32], a: Place, relation: usize, values: &[i32]
 // ---- judging
 
 // 10: the goal is a relation's number with as many values as it has places.
-pub fn judged_goal(book: &[u8], h: book::Header, relation: usize, values: &[i32]) -> Answer
+pub fn judged_goal(book: &[u8], h: book::Header, relation: usize, values: &[i32]) -> reply::Answer
     requires { ⌜ read (now book) ≡ Good h ⌝ }
     ensures { λ r. ⌜ r ≡ told (judgeGoal (bookIn (now (book .entry)) h) relation (now (values .entry))) ⌝ }
 {
     if whole::wide(h.relations) <= relation {
-        return refuse(10, 0);
+        return reply::refuse(10, 0);
     }
     if values.len() == whole::wide(book[relation]) {
-        Answer::Accepted
+        reply::Answer::Done(0)
     } else {
-        refuse(10, 0)
+        reply::refuse(10, 0)
     }
 }
 
 // 11: the list has 1 to 1,000,000 numbers.
-pub fn judged_length(list: &[i32]) -> Answer
+pub fn judged_length(list: &[i32]) -> reply::Answer
     ensures { λ r. ⌜ r ≡ told (judgeLength (now (list .entry))) ⌝ }
 {
     if list.len() == 0 {
-        return refuse(11, 0);
+        return reply::refuse(11, 0);
     }
     if 1000000 < list.len() {
-        refuse(11, 0)
+        reply::refuse(11, 0)
     } else {
-        Answer::Accepted
+        reply::Answer::Done(0)
     }
 }
 
@@ -258,7 +230,7 @@ fn judged(
     list: &[i32],
     i: usize,
     more: usize,
-) -> Answer
+) -> reply::Answer
     requires { ⌜ (h .start ≤ length (now book)) × (i < length (now list)) ⌝ }
     requires { ⌜ Sound (take (h .start) (now book)) (h .relations) l ⌝ }
     ensures { λ r. ⌜ r ≡ told (judgeClause (bookIn (now (book .entry)) h) (clauseIn (take (h .start) (now (book .entry))) l) more (drop (i + 1) (now (list .entry))) i) ⌝ }
@@ -266,19 +238,19 @@ fn judged(
     let from = i + 1;
     let v = whole::wide(l.variables);
     if list.len() - from < v {
-        return refuse(13, i);
+        return reply::refuse(13, i);
     }
     if list.len() - from - v < more {
-        return refuse(13, i);
+        return reply::refuse(13, i);
     }
     let out = first_out(list, from, v, h);
     if out < from + v {
-        return refuse(14, out);
+        return reply::refuse(14, out);
     }
     if truth::truth(book, l.rule, l.variables, list, from) {
-        Answer::Accepted
+        reply::Answer::Done(0)
     } else {
-        refuse(15, i)
+        reply::refuse(15, i)
     }
 }
 
@@ -290,14 +262,14 @@ pub fn instance_at(book: &[u8], h: book::Header, list: &[i32], i: usize, more: u
 {
     let k = number_at(list, i, h.count);
     if h.count <= k {
-        return Instance::Refused(cursor::Refusal {
+        return Instance::Refused(reply::Refusal {
             number: 12,
             place: i,
         });
     }
     let l = book::record(book, h, k);
     match judged(book, h, l, list, i, more) {
-        Answer::Refused(r) => Instance::Refused(r),
-        Answer::Accepted => Instance::Good(l),
+        reply::Answer::Refused(r) => Instance::Refused(r),
+        reply::Answer::Done(_) => Instance::Good(l),
     }
 }

@@ -5,39 +5,35 @@ use mathlib.Core.Path.{_≡_, sym, _∙_}
 use mathlib.Core.List.{List}
 use lib.ListN.{length}
 use lib.IntN.{ℤ}
-use Rattle.lists.specs.Answer as lists
-use Rattle.lists.specs.Convert.{Reply}
-use Rattle.book.specs.Answer as books
+use Rattle.reply.specs.Answer.{Answer, number, place}
+use Rattle.reply.specs.Room.{Due}
 use Rattle.book.specs.Read.{constraintOf}
 use Rattle.book.specs.Span.{spanOf}
+use Rattle.book.specs.OnBook.{reading}
 use Rattle.derivation.specs.Answer as derivation
 use Rattle.trace.specs.Answer as trace
-use Rattle.convert.specs.declared.Converted.{Converted}
-use Rattle.convert.specs.Reply.{says, replyOf}
-use Rattle.convert.specs.Calls.{toTraceIn, toDerivationIn}
-use Rattle.text.specs.Reply.{due, left}
-use Rattle.models.specs.Answer.{Answer, modelAnswer}
+use Rattle.convert.specs.Calls.{toTraceDue, toDerivationDue}
+use Rattle.text.specs.Reply.{printDue}
+use Rattle.models.specs.Answer.{Reply, modelAnswer}
 
 -- ---- the promises
 
--- n at p is due
-pub record Tells (n p r q : ℕ) : Type 0 where
-  pub number : r ≡ n
-  pub place : q ≡ p
+-- the answer a is due
+pub record Tells (a : Answer) (r q : ℕ) : Type 0 where
+  pub number : r ≡ number a
+  pub place : q ≡ place a
 
--- n at p is due, and the room l afterwards; e is the room that is left
-pub record Writes {A : Type 0} (n p : ℕ) (l : List A) (r q : ℕ) (e : List A) : Type 0 where
-  pub number : r ≡ n
-  pub place : q ≡ p
-  pub room : e ≡ l
+-- y is due; e is the room that is left
+pub record Writes {A : Type 0} (y : Due A) (r q : ℕ) (e : List A) : Type 0 where
+  pub told : Tells (y .answer) r q
+  pub room : e ≡ y .room
 
--- the model check's answer a is due: also how many assignments were examined, and the broken one's clause and sixteen values
-pub record Weighs (a : Answer) (r q n k : ℕ) (v : List ℤ) : Type 0 where
-  pub number : r ≡ a .number
-  pub place : q ≡ a .place
-  pub count : n ≡ a .count
-  pub clause : k ≡ a .clause
-  pub values : v ≡ a .values
+-- the model check's reply y is due: also how many assignments were examined, and the broken one's clause and sixteen values
+pub record Weighs (y : Reply) (r q n k : ℕ) (v : List ℤ) : Type 0 where
+  pub told : Tells (y .answer) r q
+  pub count : n ≡ y .count
+  pub clause : k ≡ y .clause
+  pub values : v ≡ y .values
 
 -- the constraint of clause k in the book s: r is its length, and q where it starts; 0 and 0 for a refused book or an absent clause
 pub record Hands (s : List ℕ) (k r q : ℕ) : Type 0 where
@@ -48,57 +44,43 @@ pub record Hands (s : List ℕ) (k r q : ℕ) : Type 0 where
 
 -- ruahmitz_book
 abbrev pub ReadsBook : List ℕ → ℕ → ℕ → Type 0
-ReadsBook s r q = Tells (books.number (books.answer s)) (books.place (books.answer s)) r q
+ReadsBook s r q = Tells (reading s) r q
 
 -- ruahmitz_derivation
 abbrev pub ChecksDerivation : List ℕ → List ℤ → ℕ → List ℤ → ℕ → ℕ → Type 0
-ChecksDerivation s l g v r q = Tells (lists.number (derivation.answer s l g v)) (lists.place (derivation.answer s l g v)) r q
+ChecksDerivation s l g v r q = Tells (derivation.answer s l g v) r q
 
 -- ruahmitz_trace
 abbrev pub ChecksTrace : List ℕ → List ℤ → ℕ → List ℤ → ℕ → ℕ → Type 0
-ChecksTrace s l g v r q = Tells (lists.number (trace.answer s l g v)) (lists.place (trace.answer s l g v)) r q
-
--- a conversion that replies y
-abbrev pub Replies : Reply → ℕ → ℕ → List ℤ → Type 0
-Replies y r q e = Writes (y .number) (y .place) (y .room) r q e
+ChecksTrace s l g v r q = Tells (trace.answer s l g v) r q
 
 -- ruahmitz_to_trace
 abbrev pub GivesTrace : List ℕ → List ℤ → ℕ → List ℤ → List ℤ → ℕ → ℕ → List ℤ → Type 0
-GivesTrace s l g v d r q e = Replies (replyOf (books.answer s) (toTraceIn g v l d) d) r q e
+GivesTrace s l g v d r q e = Writes (toTraceDue s l g v d) r q e
 
 -- ruahmitz_to_derivation
 abbrev pub GivesDerivation : List ℕ → List ℤ → ℕ → List ℤ → List ℤ → ℕ → ℕ → List ℤ → Type 0
-GivesDerivation s l g v d r q e = Replies (replyOf (books.answer s) (toDerivationIn g v l d) d) r q e
+GivesDerivation s l g v d r q e = Writes (toDerivationDue s l g v d) r q e
 
 -- ruahmitz_text
 abbrev pub PrintsText : List ℕ → List ℕ → ℕ → ℕ → List ℕ → Type 0
-PrintsText s d r q e = Writes (due (books.answer s) d .number) (due (books.answer s) d .place) (left (books.answer s) d) r q e
+PrintsText s d r q e = Writes (printDue s d) r q e
 
 -- ruahmitz_model, on the model's bytes t
 abbrev pub ChecksModel : List ℕ → List ℕ → ℕ → ℕ → ℕ → ℕ → List ℤ → Type 0
 ChecksModel s t r q n k v = Weighs (modelAnswer s t) r q n k v
 
--- a conversion's answer x, whatever the room
-abbrev pub Reports : Converted → ℕ → ℕ → Type 0
-Reports x r q = (e : List ℤ) → Tells (says x e .number) (says x e .place) r q
-
 -- ---- each promise is kept by one reply alone
 
-pub one-told : {n p r q r′ q′ : ℕ} → Tells n p r q → Tells n p r′ q′ → (r ≡ r′) × (q ≡ q′)
+pub one-told : {a : Answer} {r q r′ q′ : ℕ} → Tells a r q → Tells a r′ q′ → (r ≡ r′) × (q ≡ q′)
 one-told u v = (u .number ∙ sym (v .number), u .place ∙ sym (v .place))
 
-pub one-written : {A : Type 0} {n p r q r′ q′ : ℕ} {l e e′ : List A} → Writes n p l r q e → Writes n p l r′ q′ e′ → (r ≡ r′) × (q ≡ q′) × (e ≡ e′)
-one-written u v = (u .number ∙ sym (v .number), u .place ∙ sym (v .place), u .room ∙ sym (v .room))
+pub one-written : {A : Type 0} {y : Due A} {r q r′ q′ : ℕ} {e e′ : List A} → Writes y r q e → Writes y r′ q′ e′ → (r ≡ r′) × (q ≡ q′) × (e ≡ e′)
+one-written u v = let (a, b) = one-told (u .told) (v .told) in (a, b, u .room ∙ sym (v .room))
 
-pub one-weighed : {a : Answer} {r q n k r′ q′ n′ k′ : ℕ} {v v′ : List ℤ} → Weighs a r q n k v → Weighs a r′ q′ n′ k′ v′
+pub one-weighed : {y : Reply} {r q n k r′ q′ n′ k′ : ℕ} {v v′ : List ℤ} → Weighs y r q n k v → Weighs y r′ q′ n′ k′ v′
     → (r ≡ r′) × (q ≡ q′) × (n ≡ n′) × (k ≡ k′) × (v ≡ v′)
-one-weighed t u = (
-  t .number ∙ sym (u .number),
-  t .place ∙ sym (u .place),
-  t .count ∙ sym (u .count),
-  t .clause ∙ sym (u .clause),
-  t .values ∙ sym (u .values),
-)
+one-weighed t u = let (a, b) = one-told (t .told) (u .told) in (a, b, t .count ∙ sym (u .count), t .clause ∙ sym (u .clause), t .values ∙ sym (u .values))
 
 pub one-handed : {s : List ℕ} {k r q r′ q′ : ℕ} → Hands s k r q → Hands s k r′ q′ → (r ≡ r′) × (q ≡ q′)
 one-handed u v = (u .long ∙ sym (v .long), u .start ∙ sym (v .start))

@@ -1,15 +1,24 @@
 // The functions exported to C and Rust: each is one call of the libraries, its answer told in document 01's numbers.
-ghost use Rattle.lists.specs.Answer as lists;
-ghost use Rattle.facts.specs.Answer as facts;
-ghost use Rattle.text.specs.Reply as texts;
-ghost use Rattle.kit.specs.Promises.{Tells, Reports, Hands, ReadsBook, ChecksDerivation, ChecksTrace, GivesTrace, GivesDerivation, PrintsText, ChecksModel};
+ghost use mathlib.Core.Path.{_≡_};
+ghost use Rattle.reply.specs.Answer.{says};
+ghost use Rattle.kit.specs.Promises.{Tells, Hands, ReadsBook, ChecksDerivation, ChecksTrace, GivesTrace, GivesDerivation, PrintsText, ChecksModel};
 
 // number is returned, and `at` written
 fn told(place: &mut u64, number: u8, at: usize) -> u32
-    ensures { λ r. ⌜ Tells number at r (now (place .exit)) ⌝ }
+    ensures { λ r. ⌜ (r ≡ number) × (now (place .exit) ≡ at) ⌝ }
 {
     *place = at as u64;
     number as u32
+}
+
+// an answer
+fn answered(a: reply::Answer, place: &mut u64) -> u32
+    ensures { λ r. ⌜ Tells (says a) r (now (place .exit)) ⌝ }
+{
+    match a {
+        reply::Answer::Done(n) => told(place, 0, n),
+        reply::Answer::Refused(q) => told(place, q.number, q.place),
+    }
 }
 
 // Reads a book.
@@ -17,10 +26,7 @@ fn told(place: &mut u64, number: u8, at: usize) -> u32
 pub extern "C" fn ruahmitz_book(book: &[u8], place: &mut u64) -> u32
     ensures { λ r. ⌜ ReadsBook (now (book .entry)) r (now (place .exit)) ⌝ }
 {
-    match book::read_book(book) {
-        book::Reading::Good(_) => told(place, 0, 0),
-        book::Reading::Refused(q) => told(place, q.number, q.place),
-    }
+    answered(book::refused_by(book::read_book(book)), place)
 }
 
 // The constraint of a numbered clause: its length is returned, and where it starts is written.
@@ -31,16 +37,6 @@ pub extern "C" fn ruahmitz_constraint(book: &[u8], clause: u64, start: &mut u64)
     let p = book::constraint_span(book, clause as usize);
     *start = p.start as u64;
     p.end - p.start
-}
-
-// a check's answer
-fn answered(a: facts::Answer, place: &mut u64) -> u32
-    ensures { λ r. ⌜ Tells (lists.number (facts.says a)) (lists.place (facts.says a)) r (now (place .exit)) ⌝ }
-{
-    match a {
-        facts::Answer::Accepted => told(place, 0, 0),
-        facts::Answer::Refused(q) => told(place, q.number, q.place),
-    }
 }
 
 // Whether a list is a derivation of the goal.
@@ -74,16 +70,6 @@ pub extern "C" fn ruahmitz_trace(
     answered(trace::check(book, list, relation as usize, values), place)
 }
 
-// a conversion's answer, whatever the room
-fn converted(a: convert::Converted, place: &mut u64) -> u32
-    ensures { λ r. ⌜ Reports a r (now (place .exit)) ⌝ }
-{
-    match a {
-        convert::Converted::Wrote(n) => told(place, 0, n),
-        convert::Converted::Refused(q) => told(place, q.number, q.place),
-    }
-}
-
 // Writes a derivation's trace into the room.
 #[no_mangle]
 pub extern "C" fn ruahmitz_to_trace(
@@ -96,7 +82,7 @@ pub extern "C" fn ruahmitz_to_trace(
 ) -> u32
     ensures { λ r. ⌜ GivesTrace (now (book .entry)) (now (list .entry)) relation (now (values .entry)) (now (room .entry)) r (now (place .exit)) (now (room .exit)) ⌝ }
 {
-    converted(
+    answered(
         convert::to_trace(book, list, relation as usize, values, room),
         place,
     )
@@ -114,21 +100,10 @@ pub extern "C" fn ruahmitz_to_derivation(
 ) -> u32
     ensures { λ r. ⌜ GivesDerivation (now (book .entry)) (now (list .entry)) relation (now (values .entry)) (now (room .entry)) r (now (place .exit)) (now (room .exit)) ⌝ }
 {
-    converted(
+    answered(
         convert::to_derivation(book, list, relation as usize, values, room),
         place,
     )
-}
-
-// a printing's answer
-fn printed(a: text::Printed, place: &mut u64) -> u32
-    ensures { λ r. ⌜ Tells (texts.told a .number) (texts.told a .place) r (now (place .exit)) ⌝ }
-{
-    match a {
-        text::Printed::Written(n) => told(place, 0, n),
-        text::Printed::Short(n) => told(place, 9, n),
-        text::Printed::Refused(q) => told(place, q.number, q.place),
-    }
 }
 
 // Prints the transition system into the room.
@@ -136,7 +111,7 @@ fn printed(a: text::Printed, place: &mut u64) -> u32
 pub extern "C" fn ruahmitz_text(book: &[u8], room: &mut [u8], place: &mut u64) -> u32
     ensures { λ r. ⌜ PrintsText (now (book .entry)) (now (room .entry)) r (now (place .exit)) (now (room .exit)) ⌝ }
 {
-    printed(text::print(book, room), place)
+    answered(text::print(book, room), place)
 }
 
 // Whether the model excludes the query.
@@ -156,5 +131,6 @@ pub extern "C" fn ruahmitz_model(
     *clause = a.clause as u64;
     let v = a.values;
     *values = v;
-    told(place, a.number, a.place)
+    let answer = a.answer;
+    answered(answer, place)
 }

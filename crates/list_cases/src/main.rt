@@ -7,12 +7,12 @@
 // tests/list_cases.py.
 ghost use Prim.Native.Nat.{_≤_};
 
-fn print_line(answer: facts::Answer) {
+fn print_line(answer: reply::Answer) {
     match answer {
-        facts::Answer::Accepted => {
+        reply::Answer::Done(_) => {
             console::print_answer(0, 0);
         }
-        facts::Answer::Refused(r) => {
+        reply::Answer::Refused(r) => {
             console::print_answer(r.number, r.place);
         }
     }

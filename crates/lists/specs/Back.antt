@@ -16,11 +16,13 @@ use lib.IntN.{ℤ, pos}
 use Rattle.meaning.specs.Book.{Book, Atom, Step, Instance, head, body, atBody, clauseOf}
 use Rattle.meaning.specs.System.{before, back, lastWriters}
 use Rattle.meaning.specs.State.{Control}
-use Rattle.lists.specs.Answer.{ok}
+use Rattle.reply.specs.Answer.{ok}
+use Rattle.reply.specs.Among.{and-split}
 use Rattle.lists.specs.Derivation.{numbers, goal}
 use Rattle.lists.specs.Trace.{size, traceWalk, firstOf, checkWalk, checkTrace}
 use Rattle.lists.specs.Convert.{traceSteps, asDerivation}
-use Rattle.lists.specs.Laws.{and-ok, asked-exact}
+use Rattle.lists.specs.Among.{among-first}
+use Rattle.lists.specs.Laws.{asked-exact}
 use Rattle.lists.specs.Walked.{clauseHere, stepHere, after, start, start-next}
 use Rattle.lists.specs.Due.{walkDue, walk-due-all, trace-steps-due}
 use Rattle.lists.specs.Runs.{step-in-walk}
@@ -129,4 +131,4 @@ module _ (b : Book) (C : Control) (l : List ℤ) where
   step-in-trace r vals e =
       let f = goal r vals in
       let w = rw (walk-due-all b C f l) at (asked-exact b r vals l (checkWalk b C f l) .0 e .1) in
-      step-in-walk b (traceWalk b C f) (traceSense b C f) l (size b C) (firstOf b C l) (and-ok _ _ .0 w .1)
+      step-in-walk b (traceWalk b C f) (traceSense b C f) l (size b C) (firstOf b C l) (and-split _ (among-first b C l) w .1)

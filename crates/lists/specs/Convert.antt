@@ -1,6 +1,5 @@
 -- The two conversions between lists of numbers, and what each call answers and leaves in the lent room.
-use mathlib.Core.Bool.{Bool, true, false}
-use mathlib.Core.List.{List, [], _∷_, _++_}
+use mathlib.Core.List.{List, [], _∷_}
 use Prim.Native.Nat.{ℕ}
 use lib.ListN.{length, drop}
 use lib.Dec.{leb}
@@ -8,7 +7,8 @@ use lib.IntN.{ℤ}
 use Rattle.meaning.specs.Book.{Book, Step}
 use Rattle.meaning.specs.System.{moves, lastWriters}
 use Rattle.meaning.specs.State.{Control, first, withPlaces}
-use Rattle.lists.specs.Answer.{Answer, ok, refused, need, andThen}
+use Rattle.reply.specs.Answer.{ok, need, andThen}
+use Rattle.reply.specs.Room.{Due, written}
 use Rattle.lists.specs.Instance.{stepAt}
 use Rattle.lists.specs.Walker.{Walker, walk}
 use Rattle.lists.specs.Derivation.{numbers, checkDerivation}
@@ -41,26 +41,13 @@ asTrace b C l = traceNumbers b C (first b C) (moves b (withPlaces b C) (first b 
 unfoldable pub asDerivation : Book → Control → ℕ → List ℤ → List ℤ
 asDerivation b C r l = numbers (lastWriters b r (traceSteps b C l))
 
--- ---- what a call answers: 0 at the length written, or the refusal; and the room afterwards
-
-pub record Reply : Type 0 where
-  pub number : ℕ
-  pub place : ℕ
-  pub room : List ℤ
-
--- a list is written to the front of the room if the answer so far is ok and the room holds it (9), and the rest of the room keeps its numbers
-unfoldable pub written : Answer → List ℤ → List ℤ → Reply
-written (refused n i) t room = record { number = n; place = i; room = room }
-written ok t room = elim (leb (length t) (length room)) [
-  | true ↦ record { number = 0; place = length t; room = t ++ drop (length t) room }
-  | false ↦ record { number = 9; place = length t; room = room }
-]
+-- ---- what a call answers: done with the length written, or the refusal; and the room afterwards
 
 -- a trace of over 1,000,000 numbers is refused (20) before the room is looked at
-unfoldable pub toTrace : Book → Control → ℕ → List ℤ → List ℤ → List ℤ → Reply
+unfoldable pub toTrace : Book → Control → ℕ → List ℤ → List ℤ → List ℤ → Due ℤ
 toTrace b C r vals l room =
     let t = asTrace b C l in
     written (andThen (checkDerivation b r vals l) (need (leb (length t) 1000000) 20 (length t) ok)) t room
 
-unfoldable pub toDerivation : Book → Control → ℕ → List ℤ → List ℤ → List ℤ → Reply
+unfoldable pub toDerivation : Book → Control → ℕ → List ℤ → List ℤ → List ℤ → Due ℤ
 toDerivation b C r vals l room = written (checkTrace b C r vals l) (asDerivation b C r l) room

@@ -17,7 +17,7 @@ use Rattle.meaning.specs.State.{Control, withPlaces, first}
 use Rattle.meaning.specs.Laws.{ControlLaws, laws}
 use Rattle.meaning.specs.Conversions.{steps-moves, writers-length, writers-derivation}
 use Rattle.meaning.specs.Main.{trace-to-derivation, derivation-to-first-trace}
-use Rattle.lists.specs.Answer.{ok}
+use Rattle.reply.specs.Answer.{ok}
 use Rattle.lists.specs.Derivation.{numbers, goal, checkDerivation}
 use Rattle.lists.specs.Trace.{sum, size, checkTrace}
 use Rattle.lists.specs.Convert.{derivationSteps, traceSteps, asTrace, asDerivation}

@@ -6,7 +6,7 @@ use lib.ListN.{length, getD}
 use lib.Dec.{leb, ltb, eqb}
 use lib.IntN.{ℤ, pos}
 use Rattle.meaning.specs.Book.{Book, Fact, Step, head, body}
-use Rattle.lists.specs.Answer.{Answer, ok, need, andThen}
+use Rattle.reply.specs.Answer.{Answer, ok, need, andThen}
 use Rattle.lists.specs.Compare.{same}
 use Rattle.lists.specs.Instance.{stepAt, judgeEnabled}
 use Rattle.lists.specs.Walker.{Walker, walk}

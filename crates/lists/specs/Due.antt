@@ -9,7 +9,7 @@ use lib.ListN.{length, getD, drop}
 use lib.IntN.{ℤ, pos}
 use Rattle.meaning.specs.Book.{Book, Fact, Step, head}
 use Rattle.meaning.specs.State.{Control, State, write}
-use Rattle.lists.specs.Answer.{Answer, ok, need, andThen}
+use Rattle.reply.specs.Answer.{Answer, ok, need, andThen}
 use Rattle.lists.specs.Compare.{same}
 use Rattle.lists.specs.Instance.{clauseNumber, clauseAt, stepAt}
 use Rattle.lists.specs.Derivation.{judgeStep, derivationWalk, check}

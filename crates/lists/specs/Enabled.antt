@@ -10,7 +10,7 @@ use lib.Dec.{eqb}
 use lib.IntN.{ℤ}
 use borrow.Author.Tests.{ne-eqb}
 use Rattle.meaning.specs.Book.{Book, variableWindow}
-use Rattle.lists.specs.Answer.{Answer, ok, refused, number, need, andThen}
+use Rattle.reply.specs.Answer.{Answer, ok, refused, number, need, andThen}
 use Rattle.lists.specs.Compare.{firstOut}
 use Rattle.lists.specs.Instance.{clauseAt, judgeClause, judge, judgeEnabled}
 

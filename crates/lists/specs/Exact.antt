@@ -9,11 +9,13 @@ use lib.ListN.{length}
 use lib.IntN.{ℤ}
 use Rattle.meaning.specs.Book.{Book, Fact, Step, head, body}
 use Rattle.meaning.specs.Derivation.{Chain, lastHead, Derives}
-use Rattle.lists.specs.Answer.{ok}
+use Rattle.reply.specs.Answer.{ok}
+use Rattle.reply.specs.Among.{need-ok}
 use Rattle.lists.specs.Instance.{stepAt}
 use Rattle.lists.specs.Compare.{same}
 use Rattle.lists.specs.Derivation.{numbers, judgeStep, derivationWalk, check, goal, checkDerivation}
-use Rattle.lists.specs.Laws.{need-ok, and-says, same-exact, enabled-exact, Asked, asked-exact}
+use Rattle.lists.specs.Among.{among-step}
+use Rattle.lists.specs.Laws.{and-says, same-exact, enabled-exact, Asked, asked-exact}
 use Rattle.lists.specs.Runs.{Judged, Sense, written, Runs, accepts-only, accepts-every}
 
 pub step-exact : (b : Book) (k : ℕ) (l : List ℤ) (i : ℕ) (o : Option Fact) → (judgeStep b k l i o ≡ ok) ↔ Judged b 0 k l (λ p. p ≡ o) (λ s. [])
@@ -30,7 +32,7 @@ module _ (b : Book) (f : Fact) where
     Met = λ p o. p ≡ o;
     Done = λ o. o ≡ some f;
     shown = λ o. [];
-    step-says = λ k l i o a. and-says (judgeStep b k l i o) a (step-exact b k l i o);
+    step-says = λ k l i o a. and-says (among-step b k l i o) (step-exact b k l i o);
     end-says = λ i o. (λ e. same-exact o (some f) .0 (need-ok _ _ _ _ .0 e .0), λ t. need-ok _ 17 i ok .1 (same-exact o (some f) .1 t, refl));
   }
 

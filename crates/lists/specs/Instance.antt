@@ -7,7 +7,7 @@ use lib.Dec.{leb, ltb}
 use lib.IntN.{ℤ, pos, negsuc}
 use Rattle.meaning.specs.Constraint.{holds}
 use Rattle.meaning.specs.Book.{Book, Clause, Step, none-such, variableWindow}
-use Rattle.lists.specs.Answer.{Answer, ok, need, andThen}
+use Rattle.reply.specs.Answer.{Answer, ok, need, andThen}
 use Rattle.lists.specs.Compare.{allIn, firstOut}
 
 -- a list's number as a clause's number; below zero it is one that no clause has

@@ -12,28 +12,15 @@ use lib.Dec.{T, leb→le, le→leb, ltb→lt, lt→ltb, eqb, eqb→eq, eqb-refl}
 use lib.IntN.{ℤ, pos, negsuc}
 use lib.Signed.{leZ, leZ-yes}
 use Rattle.meaning.specs.Book.{Book, Fact, Step, Window, Inside, Within, Instance, clauseOf, variableWindow}
-use Rattle.lists.specs.Answer.{Answer, ok, refused, need, andThen}
+use Rattle.reply.specs.Answer.{Answer, ok, andThen}
+use Rattle.reply.specs.Among.{Among, need-ok, and-split, and-join}
 use Rattle.lists.specs.Compare.{eqZ, eqVals, same, inside, allIn}
-use Rattle.lists.specs.Instance.{clauseNumber, clauseAt, stepAt, judgeClause, judge, judgeEnabled}
+use Rattle.lists.specs.Instance.{clauseAt, stepAt, judgeClause, judge, judgeEnabled}
 use Rattle.lists.specs.Derivation.{judgeGoal, judgeLength}
+use Rattle.lists.specs.Among.{among-judge, among-goal, among-length}
 
--- ---- answers
-
-pub refused-not : {n i : ℕ} → ¬ (refused n i ≡ ok)
-refused-not e = let z : _≡_ {A = ℕ} 0 1 = cc in omega arith
-
-pub need-ok : (t : Bool) (n i : ℕ) (a : Answer) → (need t n i a ≡ ok) ↔ (T t × (a ≡ ok))
-unfolding need
-need-ok true n i a = (λ e. (tt, e), λ h. h .1)
-need-ok false n i a = (λ e. absurd (refused-not e), λ h. absurd (h .0))
-
-pub and-ok : (x y : Answer) → (andThen x y ≡ ok) ↔ ((x ≡ ok) × (y ≡ ok))
-unfolding andThen
-and-ok ok y = (λ e. (refl, e), λ h. h .1)
-and-ok (refused n i) y = (λ e. absurd (refused-not e), λ h. absurd (refused-not (h .0)))
-
-pub and-says : {J : Type 0} (x y : Answer) → (x ≡ ok) ↔ J → (andThen x y ≡ ok) ↔ (J × (y ≡ ok))
-and-says x y s = (λ e. let (p, q) = and-ok x y .0 e in (s .0 p, q), λ h. and-ok x y .1 (s .1 (h .0), h .1))
+pub and-says : {J : Type 0} {ns : List ℕ} {x y : Answer} → Among ns x → (x ≡ ok) ↔ J → (andThen x y ≡ ok) ↔ (J × (y ≡ ok))
+and-says {x = x} w s = (λ e. let (p, q) = and-split x w e in (s .0 p, q), λ h. and-join (s .1 (h .0), h .1))
 
 -- ---- comparisons
 
@@ -138,15 +125,9 @@ pub enabled-exact : (b : Book) (k more : ℕ) (l : List ℤ) (i : ℕ) (met : Bo
 unfolding judgeEnabled
 enabled-exact b k more l i met =
     let one = judge-exact b k more l i in (
-      λ e. let (j, t) = and-ok _ _ .0 e in (one .0 j .0, one .0 j .1, need-ok _ _ _ _ .0 t .0),
-      λ h. and-ok _ _ .1 (one .1 (h .0, h .1), need-ok _ 16 i ok .1 (h .2, refl)),
+      λ e. let (j, t) = and-split _ (among-judge b k more l i) e in (one .0 j .0, one .0 j .1, need-ok _ _ _ _ .0 t .0),
+      λ h. and-join (one .1 (h .0, h .1), need-ok _ 16 i ok .1 (h .2, refl)),
     )
-
--- a number that names a clause is not below zero
-pub clause-number : (b : Book) (x : ℤ) → clauseNumber b x < length (b .clauses) → pos (clauseNumber b x) ≡ x
-unfolding clauseNumber
-clause-number b (pos k) h = refl
-clause-number b (negsuc n) h = absurd (let z : ⊥ = omega arith in z)
 
 -- an instance's values at the front of a list
 pub step-at : (b : Book) (s : Step) (rest : List ℤ) → Instance b s → stepAt b (s .clause) (s .vals ++ rest) ≡ s
@@ -168,17 +149,17 @@ pub asked-exact : (b : Book) (r : ℕ) (vals l : List ℤ) (a : Answer)
     → (andThen (judgeGoal b r vals) (andThen (judgeLength l) a) ≡ ok) ↔ (Asked b r vals l × (a ≡ ok))
 unfolding judgeGoal judgeLength
 asked-exact b r vals l a = (
-  λ e. let (g, e₁) = and-ok _ _ .0 e in
-      let (n, e₂) = and-ok _ _ .0 e₁ in
+  λ e. let (g, e₁) = and-split _ (among-goal b r vals) e in
+      let (n, e₂) = and-split _ (among-length l) e₁ in
       let (t₁, g₁) = need-ok _ _ _ _ .0 g in
       let (t₂, g₂) = need-ok _ _ _ _ .0 g₁ in
       let (t₃, n₁) = need-ok _ _ _ _ .0 n in
       let (t₄, n₂) = need-ok _ _ _ _ .0 n₁ in
       (record { there = ltb→lt r (length (b .arities)) t₁; full = eqb→eq (length vals) (getD (b .arities) r 0) t₂; some = ltb→lt 0 (length l) t₃; few = leb→le (length l) 1000000 t₄ }, e₂),
   λ h. let q = h .0 in
-      and-ok _ _ .1 (
+      and-join (
         need-ok _ 10 0 _ .1 (lt→ltb r (length (b .arities)) (q .there), need-ok _ 10 0 _ .1 (rw (q .full) (eqb-refl (getD (b .arities) r 0)), refl)),
-        and-ok _ _ .1 (
+        and-join (
           need-ok _ 11 0 _ .1 (lt→ltb 0 (length l) (q .some), need-ok _ 11 0 _ .1 (le→leb (length l) 1000000 (q .few), refl)),
           h .1,
         ),

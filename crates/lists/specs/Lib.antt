@@ -1,4 +1,3 @@
-pub mod Answer
 pub mod Compare
 pub mod Instance
 pub mod Walker
@@ -8,6 +7,7 @@ pub mod Convert
 pub mod Enabled
 pub mod Walked
 pub mod Due
+pub mod Among
 pub mod Laws
 pub mod Runs
 pub mod Exact

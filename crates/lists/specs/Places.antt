@@ -13,7 +13,7 @@ use lib.IntN.{ℤ, pos}
 use Rattle.meaning.specs.Book.{Book, Instance, head}
 use Rattle.meaning.specs.System.{moves}
 use Rattle.meaning.specs.State.{Control, State, write, withPlaces, first}
-use Rattle.lists.specs.Answer.{ok}
+use Rattle.reply.specs.Answer.{ok}
 use Rattle.lists.specs.Derivation.{derivationWalk, check, goal, checkDerivation}
 use Rattle.lists.specs.Trace.{stateNumbers, moveNumbers, traceNumbers}
 use Rattle.lists.specs.Convert.{derivationSteps, asTrace}

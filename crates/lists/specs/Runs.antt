@@ -10,13 +10,13 @@ use lib.ListN.{length, take, drop, length-append, length-drop, take-append-drop}
 use lib.Seq.{length-take-le, take-at, drop-at}
 use lib.IntN.{ℤ, pos}
 use Rattle.meaning.specs.Book.{Book, Fact, Step, Instance, body, clauseOf}
-use Rattle.lists.specs.Answer.{Answer, ok}
+use Rattle.reply.specs.Answer.{Answer, ok}
 use Rattle.lists.specs.Instance.{clauseNumber, clauseAt, stepAt}
 use Rattle.lists.specs.Walker.{Walker, walk}
 use Rattle.lists.specs.Trace.{sum}
 use Rattle.lists.specs.Convert.{stepsWalk}
-use Rattle.lists.specs.Laws.{clause-number, step-at, after-step}
-use Rattle.lists.specs.Walked.{stepHere, start, start-next, walked, walked-more, walked-at}
+use Rattle.lists.specs.Laws.{step-at, after-step}
+use Rattle.lists.specs.Walked.{clause-number, stepHere, start, start-next, walked, walked-more, walked-at}
 
 -- a good step at the front of a list: an instance that stands there in full, its body met, and in the gap after it the numbers shown
 pub record Judged (b : Book) (gap k : ℕ) (l : List ℤ) (Met : Option Fact → Type 0) (shown : Step → List ℤ) : Type 0 where

@@ -9,7 +9,7 @@ use lib.IntN.{ℤ, pos}
 use Rattle.meaning.specs.Book.{Book, Fact, Window, placeWindow, head, body}
 use Rattle.meaning.specs.System.{Move}
 use Rattle.meaning.specs.State.{Control, State, write, withPlaces}
-use Rattle.lists.specs.Answer.{Answer, ok, need, andThen}
+use Rattle.reply.specs.Answer.{Answer, ok, need, andThen}
 use Rattle.lists.specs.Compare.{eqVals, allIn, firstOut, firstDiff}
 use Rattle.lists.specs.Instance.{clauseAt, stepAt, judgeEnabled}
 use Rattle.lists.specs.Walker.{Walker, walk}

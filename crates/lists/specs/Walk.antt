@@ -17,12 +17,14 @@ use Rattle.meaning.specs.Wf.{limits-wf, head-full, head-in-window}
 use Rattle.meaning.specs.Rows.{shaped-set}
 use Rattle.meaning.specs.Laws.{ControlLaws}
 use Rattle.meaning.specs.Conversions.{follows-moves}
-use Rattle.lists.specs.Answer.{ok}
+use Rattle.reply.specs.Answer.{ok}
+use Rattle.reply.specs.Among.{need-ok, and-split, and-join}
 use Rattle.lists.specs.Compare.{eqVals, allIn}
 use Rattle.lists.specs.Instance.{clauseAt, stepAt}
 use Rattle.lists.specs.Derivation.{goal}
 use Rattle.lists.specs.Trace.{flat, sum, cut, allRows, stateNumbers, width, size, moveNumbers, traceNumbers, has, meets, judgeMove, traceWalk, firstOf, judgeFirst, checkWalk, checkTrace}
-use Rattle.lists.specs.Laws.{need-ok, and-ok, and-says, and-T, eqVals-exact, allIn-exact, enabled-exact, Asked, asked-exact}
+use Rattle.lists.specs.Among.{among-enabled, among-move, among-first}
+use Rattle.lists.specs.Laws.{and-says, and-T, eqVals-exact, allIn-exact, enabled-exact, Asked, asked-exact}
 use Rattle.lists.specs.Runs.{Judged, Sense, written, Runs, accepts-only, accepts-every}
 
 -- ---- rows as numbers
@@ -79,10 +81,10 @@ module _ (b : Book) (C : Control) where
       let one = enabled-exact b k (size b C) l i (meets b C (body b s) σ) in
       let met = meets-exact (body b s) σ in
       let state = eqVals-exact (take (size b C) (drop (clauseAt b k .vars) l)) (stateNumbers b C (write C (head b s) σ)) in (
-        λ e. let (j, e₁) = and-ok _ _ .0 e in
+        λ e. let (j, e₁) = and-split _ (among-enabled b k (size b C) l i _) e in
             let (x, n, t) = one .0 j in
             record { one = x; long = n; met = met .0 t; next = state .0 (need-ok _ _ _ _ .0 e₁ .0) },
-        λ h. and-ok _ _ .1 (one .1 (h .one, h .long, met .1 (h .met)), need-ok _ 19 _ ok .1 (state .1 (h .next), refl)),
+        λ h. and-join (one .1 (h .one, h .long, met .1 (h .met)), need-ok _ 19 _ ok .1 (state .1 (h .next), refl)),
       )
 
   module _ (f : Fact) where
@@ -92,7 +94,7 @@ module _ (b : Book) (C : Control) where
       Met = Enabled (withPlaces b C);
       Done = Has C f;
       shown = stateNumbers b C;
-      step-says = λ k l i σ a. and-says (judgeMove b C k l i σ) a (move-exact k l i σ);
+      step-says = λ k l i σ a. and-says (among-move b C k l i σ) (move-exact k l i σ);
       end-says = λ i σ. (λ e. has-exact f σ .0 (need-ok _ _ _ _ .0 e .0), λ t. need-ok _ 17 i ok .1 (has-exact f σ .1 t, refl));
     }
 
@@ -190,7 +192,7 @@ module _ (b : Book) (C : Control) where
           ↔ ((σ : State C) × (ms : List (Move b (withPlaces b C))) × (traceNumbers b C σ ms ≡ l) × Reaches b (withPlaces b C) σ ms f)
       unfolding checkWalk traceNumbers
       walk-exact f l = (
-        λ e. let (j, more) = and-ok _ _ .0 e in
+        λ e. let (j, more) = and-split _ (among-first b C l) e in
             let (i, p) = first-exact l .0 j in
             let σ = firstOf b C l in
             let (d, q, r) = accepts-only b (traceWalk b C f) (traceSense f) (length l) (size b C) σ (drop (size b C) l) (rw length-drop (omega arith)) more in
@@ -207,7 +209,7 @@ module _ (b : Book) (C : Control) where
               let g : Good σ = initial-good (t .init) in
               let z : length state ≡ size b C = state-length σ g in
               let w = trace-written f σ ms (t .follows) in
-              and-ok _ _ .1 (
+              and-join (
                 first-exact (state ++ rest) .1 (rw here (t .init), rw here (take-at state rest (size b C) z)),
                 rw (here, drop-at state rest (size b C) z, ← w)
                     (accepts-every b (traceWalk b C f) (traceSense f) _ (size b C) σ (steps b (withPlaces b C) ms) (rw (w, length-append) (omega arith)) (trace-runs f σ ms g (t .follows) (t .holds))),

@@ -7,11 +7,16 @@ use native.Mathlib.Numerals.{add-one}
 use native.Mathlib.Omega.{arith}
 use lib.ListN.{length, getD, take, drop, length-drop}
 use lib.Seq.{drop-cons, drop-drop}
-use lib.IntN.{ℤ, pos}
+use lib.IntN.{ℤ, pos, negsuc}
 use Rattle.meaning.specs.Book.{Book, Clause, Step, Instance}
 use Rattle.lists.specs.Instance.{clauseNumber, clauseAt, stepAt}
 use Rattle.lists.specs.Walker.{Walker, walk}
-use Rattle.lists.specs.Laws.{clause-number}
+
+-- a number that names a clause is not below zero
+pub clause-number : (b : Book) (x : ℤ) → clauseNumber b x < length (b .clauses) → pos (clauseNumber b x) ≡ x
+unfolding clauseNumber
+clause-number b (pos k) h = refl
+clause-number b (negsuc n) h = absurd (let z : ⊥ = omega arith in z)
 
 -- the clause and the step that stand at place i
 abbrev pub clauseHere : Book → List ℤ → ℕ → Clause

@@ -9,11 +9,13 @@ use lib.Seq.{take-suc, drop-cons}
 use Rattle.meaning.specs.Constraint.{Constraint}
 use Rattle.meaning.specs.Book as meant
 use Rattle.meaning.specs.Book.{Book, variableWindow, none-such}
-use Rattle.cursor.specs.declared.Refusal.{Refusal}
+use Rattle.reply.specs.declared.Refusal.{Refusal}
+use Rattle.reply.specs.declared.Answer as answers
+use Rattle.reply.specs.declared.Answer.the-variants.{Done, Refused}
+use Rattle.reply.specs.Answer.{ok, says}
+use Rattle.reply.specs.Among.{refused-not}
 use Rattle.cursor.specs.Meaning.{clauseIn}
 use Rattle.book.specs.declared.Header.{Header}
-use Rattle.book.specs.declared.Reading.{Reading}
-use Rattle.book.specs.declared.Reading.the-variants as readings
 use Rattle.book.specs.declared.Reading.the-variants.{Good}
 use Rattle.book.specs.Read.{read}
 use Rattle.book.specs.Meaning.{bookIn}
@@ -24,55 +26,44 @@ use Rattle.models.specs.Assignments.{assignments, count}
 use Rattle.models.specs.Order.{assignments-count}
 use Rattle.models.specs.Walk.{step, tries, triesFrom, walk, sum, total, Finding, clean, broken, find, findThen}
 use Rattle.models.specs.Found.{sum-append, find-clean, find-append}
-use Rattle.models.specs.Answer.{Answer, plain, outcome}
+use Rattle.models.specs.Answer.{Reply, plain, outcome}
 use Rattle.parts.specs.declared.Task.{Task}
 use Rattle.parts.specs.Task.{Taken, Started, Tasked, rulesIn}
 use Rattle.parts.proofs.Tasks as tasks
-use Rattle.model.specs.declared.Reply.{Reply}
-use Rattle.model.specs.Reply.{told, refusedBy}
+use Rattle.model.specs.declared.Reply as code
+use Rattle.model.specs.Reply.{told}
 
--- ---- a refused book
+-- ---- one stretch after another: y is the answer of the reply r about a stretch
 
-pub refused-good : (y : Reading) {h : Header} {x : Answer} → y ≡ readings.Good h → x ≡ plain 0 0 0 → x ≡ refusedBy y
-unfolding refusedBy
-refused-good y e q = rw e q
+module _ (r : code.Reply) {y : answers.Answer} (is : y ≡ r .answer) where
+  module _ (go : ℕ → Finding) where
+    pub stretch-stop : (f : Finding) {g : Refusal} → told r ≡ outcome f → y ≡ Refused g → told r ≡ outcome (findThen f go)
+    unfolding outcome findThen says
+    stretch-stop (clean n) e t = absurd (refused-not (sym (ap says t) ∙ ap says is ∙ ap (λ (x : Reply). x .answer) e))
+    stretch-stop (broken n s) e t = e
 
-pub refused-own : (y : Reading) {f : Refusal} {x : Answer} → y ≡ readings.Refused f → x ≡ plain (f .number) (f .place) 0 → x ≡ refusedBy y
-unfolding refusedBy
-refused-own y e q = rw e q
+    pub stretch-more : (f : Finding) {m : ℕ} → told r ≡ outcome f → y ≡ Done m → outcome (go (r .count)) ≡ outcome (findThen f go)
+    unfolding outcome findThen says
+    stretch-more (clean n) e t = let z : r .count ≡ n = ap (λ (x : Reply). x .count) e in rw z
+    stretch-more (broken n s) e t = absurd (refused-not (sym (ap (λ (x : Reply). x .answer) e) ∙ ap says (sym is ∙ t)))
 
-pub ruleset refusals = (refused-good, refused-own)
-
--- ---- one stretch after another
-
-module _ (r : Reply) (go : ℕ → Finding) where
-  pub stretch-stop : (f : Finding) → told r ≡ outcome f → r .number ≡ 25 → told r ≡ outcome (findThen f go)
-  unfolding outcome findThen
-  stretch-stop (clean n) e t = absurd (let z : r .number ≡ 0 = ap (λ (a : Answer). a .number) e in let q : ⊥ = omega arith in q)
-  stretch-stop (broken n s) e t = e
-
-  pub stretch-more : (f : Finding) → told r ≡ outcome f → (r .number ≡ 25 → ⊥) → outcome (go (r .count)) ≡ outcome (findThen f go)
-  unfolding outcome findThen
-  stretch-more (clean n) e t = let z : r .count ≡ n = ap (λ (a : Answer). a .count) e in rw z
-  stretch-more (broken n s) e t = absurd (t (ap (λ (a : Answer). a .number) e))
-
-pub stretch-clean : (r : Reply) (f : Finding) → told r ≡ outcome f → (r .number ≡ 25 → ⊥) → f ≡ clean (r .count)
-unfolding outcome
-stretch-clean r (clean n) e t = let z : r .count ≡ n = ap (λ (a : Answer). a .count) e in rw z
-stretch-clean r (broken n s) e t = absurd (t (ap (λ (a : Answer). a .number) e))
+  pub stretch-clean : (f : Finding) {m : ℕ} → told r ≡ outcome f → y ≡ Done m → f ≡ clean (r .count)
+  unfolding outcome says
+  stretch-clean (clean n) e t = let z : r .count ≡ n = ap (λ (x : Reply). x .count) e in rw z
+  stretch-clean (broken n s) e t = absurd (refused-not (sym (ap (λ (x : Reply). x .answer) e) ∙ ap says (sym is ∙ t)))
 
 -- ---- the clauses
 
 module _ (b : Book) (m : List Constraint) where
   -- what is due from clause k on
-  unfoldable pub rest : ℕ → ℕ → Answer
+  unfoldable pub rest : ℕ → ℕ → Reply
   rest seen k = outcome (find b m seen (triesFrom b k (drop k (b .clauses))))
 
   pub rest-all : rest 0 0 ≡ outcome (find b m 0 (walk b))
   unfolding rest walk
   rest-all = refl
 
-  pub rest-none : (seen k : ℕ) → length (b .clauses) ≤ k → rest seen k ≡ plain 0 0 seen
+  pub rest-none : (seen k : ℕ) → length (b .clauses) ≤ k → rest seen k ≡ plain ok seen
   unfolding rest triesFrom find outcome
   rest-none seen k h = rw (drop-of-length-le (b .clauses) h)
 
@@ -87,18 +78,18 @@ module _ (b : Book) (m : List Constraint) where
     unfolding rest triesFrom
     split = rw (drop-cons (b .clauses) k none-such h, add-one k, find-append b m seen (tries b k c) (triesFrom b (suc k) (drop (suc k) (b .clauses))))
 
-    module _ (r : Reply) (e : told r ≡ outcome here) where
-      pub rest-stop : r .number ≡ 25 → told r ≡ rest seen k
-      rest-stop t = stretch-stop r _ here e t ∙ sym split
+    module _ (r : code.Reply) {y : answers.Answer} (is : y ≡ r .answer) (e : told r ≡ outcome here) where
+      pub rest-stop : {g : Refusal} → y ≡ Refused g → told r ≡ rest seen k
+      rest-stop t = stretch-stop r is _ here e t ∙ sym split
 
-      pub rest-more : (r .number ≡ 25 → ⊥) → rest (r .count) (k + 1) ≡ rest seen k
+      pub rest-more : {n : ℕ} → y ≡ Done n → rest (r .count) (k + 1) ≡ rest seen k
       unfolding rest
-      rest-more t = stretch-more r _ here e t ∙ sym split
+      rest-more t = stretch-more r is _ here e t ∙ sym split
 
-      pub seen-more : (r .number ≡ 25 → ⊥) → seen ≡ sum b (take k (b .clauses)) → r .count ≡ sum b (take (k + 1) (b .clauses))
+      pub seen-more : {n : ℕ} → y ≡ Done n → seen ≡ sum b (take k (b .clauses)) → r .count ≡ sum b (take (k + 1) (b .clauses))
       unfolding sum
       seen-more t q =
-          let x = find-clean b m seen (tries b k c) (r .count) (stretch-clean r here e t) .0 in
+          let x = find-clean b m seen (tries b k c) (r .count) (stretch-clean r is here e t) .0 in
           let w = variableWindow b c in
           rw (add-one k, take-suc (b .clauses) k none-such h)
           (omega (arith, x, q, sum-append b (take k (b .clauses)) (c ∷ []), length-map (assignments w (c .vars)) (step k), assignments-count w (c .vars)))
@@ -138,17 +129,18 @@ module _ (s : List ℕ) (h : Header) (t : List ℕ) (good : read s ≡ Good h) w
   there : (k : ℕ) → k < h .count → k < length (b .clauses)
   there k l = omega (arith, count-is s h good)
 
-  module _ (seen k : ℕ) (r : Reply) (e : told r ≡ outcome (find b m seen (tries b k (getD (b .clauses) k none-such)))) where
-    pub all-stop : k < h .count → r .number ≡ 25 → told r ≡ rest b m seen k
-    all-stop l q = rest-stop b m seen k (there k l) r e q
+  module _ (seen k : ℕ) (r : code.Reply) {y : answers.Answer} (is : y ≡ r .answer) (e : told r ≡ outcome (find b m seen (tries b k (getD (b .clauses) k none-such)))) where
+    pub all-stop : {g : Refusal} → k < h .count → y ≡ Refused g → told r ≡ rest b m seen k
+    all-stop l q = rest-stop b m seen k (there k l) r is e q
 
-    pub all-more : k < h .count → (r .number ≡ 25 → ⊥) → rest b m (r .count) (k + 1) ≡ rest b m seen k
-    all-more l q = rest-more b m seen k (there k l) r e q
+    pub all-more : {n : ℕ} → k < h .count → y ≡ Done n → rest b m (r .count) (k + 1) ≡ rest b m seen k
+    all-more l q = rest-more b m seen k (there k l) r is e q
 
-    pub all-seen : k < h .count → (r .number ≡ 25 → ⊥) → seen ≡ sum b (take k (b .clauses)) → r .count ≡ sum b (take (k + 1) (b .clauses))
-    all-seen l q z = seen-more b m seen k (there k l) r e q z
+    pub all-seen : {n : ℕ} → k < h .count → y ≡ Done n → seen ≡ sum b (take k (b .clauses)) → r .count ≡ sum b (take (k + 1) (b .clauses))
+    all-seen l q z = seen-more b m seen k (there k l) r is e q z
 
-  pub all-none : (seen k : ℕ) {x : Answer} → h .count ≤ k → x ≡ plain 0 0 seen → x ≡ rest b m seen k
+  pub all-none : (seen k : ℕ) {x : Reply} → h .count ≤ k → x ≡ plain (says (Done 0)) seen → x ≡ rest b m seen k
+  unfolding says
   all-none seen k l q = q ∙ sym (rest-none b m seen k (omega (arith, count-is s h good)))
 
   pub all-small : (seen k : ℕ) → seen ≡ sum b (take k (b .clauses)) → total b ≤ 1000000 → seen ≤ 1000000

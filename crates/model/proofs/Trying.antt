@@ -8,6 +8,9 @@ use mathlib.Core.List.{List, _∷_, map}
 use lib.ListN.{length, getD, take, drop, replicate, take-append-drop}
 use lib.Seq.{length-take-le}
 use lib.IntN.{ℤ, pos}
+use Rattle.reply.specs.declared.Answer as code
+use Rattle.reply.specs.declared.Answer.the-variants.{Refused}
+use Rattle.reply.specs.Answer.{ok, refuse, says}
 use Rattle.meaning.specs.Constraint.{Constraint}
 use Rattle.meaning.specs.Book.{Book, none-such}
 use Rattle.cursor.specs.Steps.{pick}
@@ -23,7 +26,7 @@ use Rattle.models.specs.Assignments.{assignments, count}
 use Rattle.models.specs.Odometer.{up, run, lows, up-length, up-drop, lows-length, lows-drop, walked}
 use Rattle.models.specs.Cap.{cap, cap-small}
 use Rattle.models.specs.Walk.{step, tries, breaks, find}
-use Rattle.models.specs.Answer.{Answer, plain, slots, outcome}
+use Rattle.models.specs.Answer.{Reply, plain, slots, outcome}
 use Rattle.parts.specs.declared.Task.{Task}
 use Rattle.parts.specs.Task.{breaksIn, Ready, Tasked, rulesIn}
 
@@ -72,7 +75,7 @@ module _ (s : List ℕ) (h : Header) (t : List ℕ) (k : ℕ) where
   abbrev pub m : List Constraint
   m = rulesIn t (bookIn s h .arities)
 
-  unfoldable pub due : ℕ → ℕ → List ℤ → ℕ → Answer
+  unfoldable pub due : ℕ → ℕ → List ℤ → ℕ → Reply
   due n left vs seen = outcome (find b m seen (map (step k) (run (windows h) n left vs)))
 
   -- all of the clause is due at first
@@ -101,17 +104,17 @@ module _ (s : List ℕ) (h : Header) (t : List ℕ) (k : ℕ) where
     split n (suc k) vs l = rw sub-one
 
     -- this one is broken
-    pub due-broken : r ≡ true → record { number = 25; place = seen + 1; count = seen + 1; clause = k; values = vs } ≡ due n left vs seen
-    unfolding due find pick outcome
-    due-broken y =
+    pub due-broken : {a : code.Answer} → r ≡ true → a ≡ Refused (refuse 25 (seen + 1)) → record { answer = says a; count = seen + 1; clause = k; values = vs } ≡ due n left vs seen
+    unfolding due find pick outcome says
+    due-broken y o =
         let z : task .clause .variables < 17 = w .held .sound .few in
-        rw (split n left vs some, sym test ∙ y, padded-slots n vs (omega arith) p)
+        rw (o, split n left vs some, sym test ∙ y, padded-slots n vs (omega arith) p)
 
     -- this one is not
     pub due-next : {us : List ℤ} → r ≡ false → us ≡ up (windows h) n vs → due n (left - 1) us (seen + 1) ≡ due n left vs seen
     unfolding due find pick
     due-next y u = rw (split n left vs some, sym test ∙ y, u)
 
-  pub due-none : (n left : ℕ) (vs : List ℤ) (seen : ℕ) → left ≤ 0 → due n left vs seen ≡ plain 0 0 seen
+  pub due-none : (n left : ℕ) (vs : List ℤ) (seen : ℕ) → left ≤ 0 → due n left vs seen ≡ plain ok seen
   unfolding due run find outcome
   due-none n left vs seen l = let z : left ≡ 0 = omega arith in rw z

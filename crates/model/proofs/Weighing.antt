@@ -11,7 +11,10 @@ use Rattle.whole.specs.Whole.{lt-or-le}
 use Rattle.meaning.specs.Constraint.{holds}
 use Rattle.meaning.specs.Book.{Book}
 use Rattle.cursor.specs.declared.Cursor.{Cursor}
-use Rattle.cursor.specs.declared.Refusal.{Refusal}
+use Rattle.reply.specs.declared.Refusal.{Refusal}
+use Rattle.reply.specs.declared.Answer as answers
+use Rattle.reply.specs.declared.Answer.the-variants.{Refused}
+use Rattle.reply.specs.Answer.{refused, refuse, says}
 use Rattle.cursor.specs.declared.Step.the-variants as steps
 use Rattle.cursor.specs.Steps.{pick}
 use Rattle.cursor.specs.Tree.{Got, got, no}
@@ -23,19 +26,19 @@ use Rattle.book.specs.declared.Reading.the-variants as readings
 use Rattle.book.specs.declared.Reading.the-variants.{Good}
 use Rattle.book.specs.Read.{read}
 use Rattle.book.specs.Meaning.{bookIn}
-use Rattle.book.specs.Answer as books
 use Rattle.book.specs.Answer.{Answers}
+use Rattle.book.specs.OnBook.{refusedBy, by-refused, by-good, refused-own}
 use Rattle.book.specs.Trailer.{read-trailed}
 use Rattle.models.specs.Read.{Part, rules, modelIn, rulesOf}
 use Rattle.models.specs.Cap.{cap, cap-small, cap-large}
 use Rattle.models.specs.Walk.{walk, total, find}
-use Rattle.models.specs.Answer.{Answer, plain, no-part, outcome, weighed, judged, examine, inBook, modelAnswer}
+use Rattle.models.specs.Answer.{Reply, plain, no-part, outcome, weighed, judged, examine, modelAnswer}
 use Rattle.models.specs.Passed.{IsPart, pass-moved, pass-refused}
 use Rattle.parts.specs.declared.Scan.{Scan}
 use Rattle.parts.specs.Task.{Scanned, Started, rulesIn}
 use Rattle.parts.proofs.Tasks as tasks
-use Rattle.model.specs.declared.Reply.{Reply}
-use Rattle.model.specs.Reply.{told, refusedBy, partsOf, partsIn, Replies}
+use Rattle.model.specs.declared.Reply as code
+use Rattle.model.specs.Reply.{told, partsOf, partsIn, Replies}
 
 rules-parts : (y : Got (List Part)) → rulesOf y ≡ rules (partsOf y)
 unfolding rulesOf partsOf
@@ -74,16 +77,16 @@ module _ (s : List ℕ) (h : Header) (t l : List ℕ) {q : ℕ} (good : read s �
     test : r ≡ holds [] (getD ps (b .query) no-part .rule)
     test = p ∙ ap (holds []) (rw (query-part .start) (sym (query-part .is)))
 
-    pub weigh-true : {x : Answer} → r ≡ true → x ≡ plain 23 (getD l q 0) 0 → x ≡ weighed b ps
-    unfolding weighed pick
-    weigh-true y z = z ∙ rw (sym test ∙ y, query-part .start)
+    pub weigh-true : {x : Reply} {a : answers.Answer} → r ≡ true → a ≡ Refused (refuse 23 (getD l q 0)) → x ≡ plain (says a) 0 → x ≡ weighed b ps
+    unfolding weighed pick says
+    weigh-true y o z = z ∙ rw (o, sym test ∙ y, query-part .start)
 
     module _ {n : ℕ} (c : n ≡ cap (total b)) (y : r ≡ false) where
-      pub weigh-many : {x : Answer} → 1000000 < n → x ≡ plain 24 0 0 → x ≡ weighed b ps
-      unfolding weighed pick
-      weigh-many k z = z ∙ rw (sym test ∙ y, lt-ltb 1000000 (total b) (many-of (total b) c k))
+      pub weigh-many : {x : Reply} {a : answers.Answer} → 1000000 < n → a ≡ Refused (refuse 24 0) → x ≡ plain (says a) 0 → x ≡ weighed b ps
+      unfolding weighed pick says
+      weigh-many k o z = z ∙ rw (o, sym test ∙ y, lt-ltb 1000000 (total b) (many-of (total b) c k))
 
-      pub weigh-rest : {x : Answer} → n ≤ 1000000 → x ≡ outcome (find b (rulesIn t (b .arities)) 0 (walk b)) → x ≡ weighed b ps
+      pub weigh-rest : {x : Reply} → n ≤ 1000000 → x ≡ outcome (find b (rulesIn t (b .arities)) 0 (walk b)) → x ≡ weighed b ps
       unfolding weighed pick
       weigh-rest k z = z ∙ rw (sym test ∙ y, le-ltb 1000000 (total b) (few-of (total b) c k), rules-parts (modelIn t (b .arities)))
 
@@ -92,9 +95,9 @@ pub ruleset weighing = (weigh-true, weigh-many, weigh-rest)
 -- ---- the whole reply; y is what reading the book answered
 
 module _ (s t : List ℕ) (y : Reading) (a : Answers s y) where
-  pub reply-refused : (r : Reply) {f : Refusal} → y ≡ readings.Refused f → told r ≡ refusedBy y → Replies s t r
-  unfolding modelAnswer inBook books.told refusedBy
-  reply-refused r e q = record { tells = rw (← (a .tells), e) (rw e at q) }
+  pub reply-refused : (r : code.Reply) {f : Refusal} {x : answers.Answer} → y ≡ readings.Refused f → x ≡ refusedBy y → told r ≡ plain (says x) 0 → Replies s t r
+  unfolding modelAnswer says
+  reply-refused r e o q = record { tells = q ∙ ap (λ (z : answers.Answer). plain (says z) 0) (refused-own o e) ∙ sym (by-refused s (λ n p. plain (refused n p) 0) (λ b. examine b t) a e) }
 
   module _ (h : Header) (e : y ≡ readings.Good h) where
     pub good-read : read s ≡ Good h
@@ -107,18 +110,18 @@ module _ (s t : List ℕ) (y : Reading) (a : Answers s y) where
     relations-room = let k = read-trailed s h good-read .kept in omega arith
 
     answered : modelAnswer s t ≡ examine (bookIn s h) t
-    unfolding modelAnswer inBook books.told
-    answered = rw (← (a .tells), e)
+    unfolding modelAnswer
+    answered = by-good s (λ n p. plain (refused n p) 0) (λ b. examine b t) a e
 
     module _ (x : Scan) (w : Scanned t (take (h .relations) s) x) where
       pub started : {d : Cursor} → x .end ≡ steps.Moved d → Started t (take (h .relations) s) (x .starts)
       started {d} p = record { starts = w .starts; end = d; passed = sym (w .end) ∙ p }
 
-      pub reply-model : (r : Reply) {f : Refusal} → x .end ≡ steps.Refused f → told r ≡ plain (f .number) (f .place) 0 → Replies s t r
-      unfolding examine judged bookIn
+      pub reply-model : (r : code.Reply) {f : Refusal} → x .end ≡ steps.Refused f → told r ≡ plain (says (Refused f)) 0 → Replies s t r
+      unfolding examine judged bookIn says
       reply-model r p q = record { tells = q ∙ sym (answered ∙ rw (pass-refused t (take (h .relations) s) (sym (w .end) ∙ p))) }
 
-      pub reply-weighed : (r : Reply) {d : Cursor} → x .end ≡ steps.Moved d → told r ≡ weighed (bookIn s h) (partsIn t (bookIn s h .arities)) → Replies s t r
+      pub reply-weighed : (r : code.Reply) {d : Cursor} → x .end ≡ steps.Moved d → told r ≡ weighed (bookIn s h) (partsIn t (bookIn s h .arities)) → Replies s t r
       unfolding examine judged bookIn partsOf
       reply-weighed r p q =
           let (ps, k) = pass-moved t (take (h .relations) s) (sym (w .end) ∙ p) in

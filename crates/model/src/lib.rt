@@ -2,6 +2,7 @@
 ghost use mathlib.Core.Path.{_≡_};
 ghost use Prim.Native.Nat.{_≤_, _<_};
 ghost use lib.ListN.{take};
+ghost use Rattle.reply.specs.Answer.{says};
 ghost use Rattle.book.specs.Read.{read};
 ghost use Rattle.book.specs.Meaning.{bookIn};
 ghost use Rattle.book.specs.declared.Reading.the-variants.{Good};
@@ -10,26 +11,23 @@ ghost use Rattle.models.specs.Assignments.{count};
 ghost use Rattle.models.specs.Walk.{total};
 ghost use Rattle.models.specs.Answer.{plain};
 ghost use Rattle.parts.specs.Task.{Started, Tasked};
-ghost use Rattle.model.specs.Reply.{told, Replies, refusedBy, clauseAnswer, walkAnswer, weighedAnswer};
+ghost use Rattle.model.specs.Reply.{told, Replies, clauseAnswer, walkAnswer, weighedAnswer};
 
-// What the check answers: document 01's number and place, how many assignments were examined,
-// and of a broken instance its clause and values.
+// What the check replies: its answer, how many assignments were examined, and of a broken instance its clause and values.
 pub struct Reply {
-    pub number: u8,
-    pub place: usize,
+    pub answer: reply::Answer,
     pub count: usize,
     pub clause: usize,
     pub values: [i32; 16],
 }
 
 // any reply but 25: clause and values are 0
-fn simply(number: u8, place: usize, examined: usize) -> Reply
-    ensures { λ r. ⌜ told r ≡ plain number place examined ⌝ }
+fn simply(answer: reply::Answer, examined: usize) -> Reply
+    ensures { λ r. ⌜ told r ≡ plain (says answer) examined ⌝ }
 {
     let values = [0i32; 16];
     Reply {
-        number: number,
-        place: place,
+        answer: answer,
         count: examined,
         clause: 0,
         values: values,
@@ -60,9 +58,9 @@ fn try_clause(
     while 0 < left {
         seen += 1;
         if parts::breaks_at(front, t, &values, model) {
+            let broken = reply::refuse(25, seen);
             return Reply {
-                number: 25,
-                place: seen,
+                answer: broken,
                 count: seen,
                 clause: k,
                 values: values,
@@ -71,7 +69,7 @@ fn try_clause(
         odometer::advance(&mut values, h, n);
         left -= 1;
     }
-    simply(0, 0, seen)
+    simply(reply::Answer::Done(0), seen)
 }
 
 // all clauses in order
@@ -86,13 +84,16 @@ fn try_all(book: &[u8], h: book::Header, model: &[u8], starts: [usize; 16]) -> R
     while k < h.count {
         let t = parts::task_of(book, h, k, starts);
         let r = try_clause(book, h, k, t, model, seen);
-        if r.number == 25 {
-            return r;
+        let a = r.answer;
+        match a {
+            reply::Answer::Refused(_) => return r,
+            reply::Answer::Done(_) => {
+                seen = r.count;
+                k += 1;
+            }
         }
-        seen = r.count;
-        k += 1;
     }
-    simply(0, 0, seen)
+    simply(reply::Answer::Done(0), seen)
 }
 
 // the query's constraint, the number of assignments, and all clauses
@@ -105,22 +106,12 @@ fn weigh(book: &[u8], h: book::Header, model: &[u8], starts: [usize; 16]) -> Rep
     let at = starts[q];
     let none = [0i32; 16];
     if truth::truth(model, at, 0, &none, 0) {
-        return simply(23, at, 0);
+        return simply(reply::refuse(23, at), 0);
     }
     if 1000000 < odometer::total_of(book, h) {
-        return simply(24, 0, 0);
+        return simply(reply::refuse(24, 0), 0);
     }
     try_all(book, h, model, starts)
-}
-
-// a refused book's own refusal
-fn refused_by(b: book::Reading) -> Reply
-    ensures { λ r. ⌜ told r ≡ refusedBy b ⌝ }
-{
-    match b {
-        book::Reading::Good(_) => simply(0, 0, 0),
-        book::Reading::Refused(r) => simply(r.number, r.place, 0),
-    }
 }
 
 // Checks a model: the reply for any book and model bytes.
@@ -129,13 +120,13 @@ pub fn check(book: &[u8], model: &[u8]) -> Reply
 {
     let read = book::read_book(book);
     let book::Reading::Good(h) = read else {
-        return refused_by(read);
+        return simply(book::refused_by(read), 0);
     };
     let scan = parts::read_model(model, book, h.relations);
     let starts = scan.starts;
     let end = scan.end;
     match end {
-        cursor::Step::Refused(r) => simply(r.number, r.place, 0),
+        cursor::Step::Refused(r) => simply(reply::Answer::Refused(r), 0),
         cursor::Step::Moved(_) => weigh(book, h, model, starts),
     }
 }

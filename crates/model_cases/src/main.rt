@@ -24,14 +24,22 @@ fn print_values(values: &[i32; 16]) {
     }
 }
 
-fn print_reply(reply: model::Reply) {
-    console::print_answer(reply.number, reply.place);
+fn print_reply(x: model::Reply) {
+    let answer = x.answer;
+    match answer {
+        reply::Answer::Done(n) => {
+            console::print_answer(0, n);
+        }
+        reply::Answer::Refused(r) => {
+            console::print_answer(r.number, r.place);
+        }
+    }
     console::write(b" count ");
-    console::print(reply.count);
+    console::print(x.count);
     console::write(b" clause ");
-    console::print(reply.clause);
+    console::print(x.clause);
     console::write(b" values");
-    let values = reply.values;
+    let values = x.values;
     print_values(&values);
     console::write(b"\n");
 }

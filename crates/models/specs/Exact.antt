@@ -10,6 +10,7 @@ use lib.ListN.{length, getD, length-map, List·getD-map, List·getD-append}
 use lib.Seq.{getD-append-seam}
 use lib.Ieee.Bits.{is-true}
 use borrow.Author.Tests.{ltb-true, ltb-false}
+use Rattle.reply.specs.Answer.{refused, ok}
 use Rattle.meaning.specs.Constraint.{Constraint, truth, holds}
 use Rattle.meaning.specs.Book.{Book, Fact, Step, Instance, clauseOf, head, body, query}
 use Rattle.meaning.specs.Limits.{Each, Limits}
@@ -24,10 +25,11 @@ use Rattle.cursor.specs.declared.Cursor.{Cursor}
 use Rattle.cursor.specs.Tree.{Got, got, no, then}
 use Rattle.cursor.specs.Inverse.{pick-by, no-tree, then-went}
 use Rattle.book.specs.Answer.{answer, accepted}
+use Rattle.book.specs.OnBook.{on-accepted}
 use Rattle.models.specs.Read.{Part, rules, numberIn, inModel, ruleThen, partsAt, modelIn}
 use Rattle.models.specs.Walk.{Assignment, walk, total, position, satisfies, met, breaks, Finding, clean, broken, find}
 use Rattle.models.specs.Found.{Among, tried, position-walk, walk-total, Whole, First, find-clean, find-broken, walk-clean}
-use Rattle.models.specs.Answer.{Answer, plain, slots, outcome, no-part, weighed, judged, examine, inBook, modelAnswer}
+use Rattle.models.specs.Answer.{Reply, numberOf, plain, slots, outcome, no-part, weighed, judged, examine, modelAnswer}
 
 never : false ≡ true → ⊥
 never e = let z : _≡_ {A = ℕ} 0 1 = cc in omega arith
@@ -164,9 +166,9 @@ module _ (b : Book) (ps : List Part) where
   query-rule = List·getD-map (λ (p : Part). p .rule) ps (b .query) no-part
 
   -- what holds on each way to an answer holds of it
-  pub weighed-by : (P : Answer → Type 0) →
-      (holds [] (getD (rules ps) (b .query) truth) ≡ true → P (plain 23 (getD ps (b .query) no-part .at) 0)) →
-      (holds [] (getD (rules ps) (b .query) truth) ≡ false → 1000000 < total b → P (plain 24 0 0)) →
+  pub weighed-by : (P : Reply → Type 0) →
+      (holds [] (getD (rules ps) (b .query) truth) ≡ true → P (plain (refused 23 (getD ps (b .query) no-part .at)) 0)) →
+      (holds [] (getD (rules ps) (b .query) truth) ≡ false → 1000000 < total b → P (plain (refused 24 0) 0)) →
       (holds [] (getD (rules ps) (b .query) truth) ≡ false → total b ≤ 1000000 → P (outcome (find b (rules ps) 0 (walk b)))) →
       P (weighed b ps)
   unfolding weighed
@@ -188,37 +190,37 @@ record Passes (b : Book) (ps : List Part) : Type 0 where
   clear : find b (rules ps) 0 (walk b) ≡ clean (total b)
 
 module _ (b : Book) where
-  clear-only : (m : List Constraint) (f : Finding) → find b m 0 (walk b) ≡ f → outcome f .number ≡ 0 → find b m 0 (walk b) ≡ clean (total b)
+  clear-only : (m : List Constraint) (f : Finding) → find b m 0 (walk b) ≡ f → numberOf (outcome f) ≡ 0 → find b m 0 (walk b) ≡ clean (total b)
   unfolding outcome
   clear-only m (clean n) e h =
       let z : n ≡ total b = omega (arith, find-clean b m 0 (walk b) n e .0, walk-total b) in
       e ∙ ap clean z
   clear-only m (broken n s) e h = absurd (let z : ⊥ = omega arith in z)
 
-  passes : (ps : List Part) → weighed b ps .number ≡ 0 → Passes b ps
-  passes ps = weighed-by b ps (λ a. a .number ≡ 0 → Passes b ps)
+  passes : (ps : List Part) → numberOf (weighed b ps) ≡ 0 → Passes b ps
+  passes ps = weighed-by b ps (λ a. numberOf a ≡ 0 → Passes b ps)
       (λ t h. absurd (let z : ⊥ = omega arith in z))
       (λ t u h. absurd (let z : ⊥ = omega arith in z))
       (λ t u h. record { denied = t; few = u; clear = clear-only (rules ps) (find b (rules ps) 0 (walk b)) refl h })
 
-  passed : (ps : List Part) → Passes b ps → weighed b ps ≡ plain 0 0 (total b)
+  passed : (ps : List Part) → Passes b ps → weighed b ps ≡ plain ok (total b)
   unfolding outcome
-  passed ps p = weighed-by b ps (λ a. a ≡ plain 0 0 (total b))
+  passed ps p = weighed-by b ps (λ a. a ≡ plain ok (total b))
       (λ t. absurd (never (sym (p .denied) ∙ t)))
       (λ t u. absurd (let z : ⊥ = omega (arith, p .few) in z))
       (λ t u. rw (p .clear))
 
   module _ (s : List ℕ) where
-    read-passes : (y : Got (List Part)) → modelIn s (b .arities) ≡ y → judged b y .number ≡ 0 → (ps : List Part) × (c : Cursor) × (y ≡ got ps c) × Passes b ps
+    read-passes : (y : Got (List Part)) → modelIn s (b .arities) ≡ y → numberOf (judged b y) ≡ 0 → (ps : List Part) × (c : Cursor) × (y ≡ got ps c) × Passes b ps
     unfolding judged modelIn
     read-passes (got ps c) e h = (ps, c, refl, passes ps h)
-    read-passes (no r) e h = absurd (refused (rw e at (parts-fine s (b .arities) (record { at = 0; left = 0 }))))
+    read-passes (no r) e h = absurd (fine (rw e at (parts-fine s (b .arities) (record { at = 0; left = 0 }))))
       where
-        refused : (r .number ≡ 21) ⊎ (r .number ≡ 22) → ⊥
-        refused (inl z) = omega arith
-        refused (inr z) = omega arith
+        fine : (r .number ≡ 21) ⊎ (r .number ≡ 22) → ⊥
+        fine (inl z) = omega arith
+        fine (inr z) = omega arith
 
-    accepts : examine b s .number ≡ 0 → Accepts b s
+    accepts : numberOf (examine b s) ≡ 0 → Accepts b s
     unfolding examine modelIn
     accepts h =
         let (ps, c, e, p) = read-passes (modelIn s (b .arities)) refl h in
@@ -231,7 +233,7 @@ module _ (b : Book) where
         }
 
     -- what is accepted has the reply 0 at 0, with all assignments counted
-    accepts-reply : Accepts b s → examine b s ≡ plain 0 0 (total b)
+    accepts-reply : Accepts b s → examine b s ≡ plain ok (total b)
     unfolding examine judged
     accepts-reply a =
         let h = a .held in
@@ -240,22 +242,22 @@ module _ (b : Book) where
         rw (h .reads) (passed (h .parts) (record { denied = q .0; few = a .few; clear = q .1 }))
 
     -- accepted exactly when the bytes hold a model of b and there are at most a million assignments
-    pub accepted-exactly : (examine b s .number ≡ 0) ↔ Accepts b s
-    accepted-exactly = (accepts, λ a. ap (λ (x : Answer). x .number) (accepts-reply a))
+    pub accepted-exactly : (numberOf (examine b s) ≡ 0) ↔ Accepts b s
+    accepted-exactly = (accepts, λ a. ap numberOf (accepts-reply a))
 
     -- all of them are counted then
-    pub accepted-count : examine b s .number ≡ 0 → examine b s ≡ plain 0 0 (total b)
+    pub accepted-count : numberOf (examine b s) ≡ 0 → examine b s ≡ plain ok (total b)
     accepted-count h = accepts-reply (accepts h)
 
     -- once accepted, no derivation of the query exists, and no trace to it, of any length
-    pub accepted-derivation : examine b s .number ≡ 0 → ¬ Derivable b (query b)
+    pub accepted-derivation : numberOf (examine b s) ≡ 0 → ¬ Derivable b (query b)
     accepted-derivation h = model-derivation (accepts h .is)
 
-    pub accepted-trace : Limits b → examine b s .number ≡ 0 → ¬ Reachable b (Flagged b) (query b)
+    pub accepted-trace : Limits b → numberOf (examine b s) ≡ 0 → ¬ Reachable b (Flagged b) (query b)
     accepted-trace l h = flags-model-trace l (accepts h .is)
 
     -- nor in any system that has the laws
-    pub accepted-system : Limits b → (S : System) → Laws (length (b .arities)) S → examine b s .number ≡ 0 → ¬ Reachable b S (query b)
+    pub accepted-system : Limits b → (S : System) → Laws (length (b .arities)) S → numberOf (examine b s) ≡ 0 → ¬ Reachable b S (query b)
     accepted-system l S L h = model-trace l S L (accepts h .is)
 
 -- ---- refusal 25
@@ -265,9 +267,9 @@ pub record FirstBroken (b : Book) (m : List Constraint) (s : Step) : Type 0 wher
   pub is : Broken b m s
   pub earlier : (t : Step) → Assignment b t → position b t < position b s → ¬ Broken b m t
 
--- a reply 25: number, place and count are its position, and clause and values are its own
-abbrev pub brokenAt : Book → Step → Answer
-brokenAt b s = record { number = 25; place = position b s; count = position b s; clause = s .clause; values = slots (s .vals) }
+-- a reply 25: place and count are its position, and clause and values are its own
+abbrev pub brokenAt : Book → Step → Reply
+brokenAt b s = record { answer = refused 25 (position b s); count = position b s; clause = s .clause; values = slots (s .vals) }
 
 pub record Breaks (b : Book) (s : List ℕ) : Type 0 where
   pub model : List Constraint
@@ -302,29 +304,29 @@ module _ (b : Book) (m : List Constraint) (s : Step) (n : ℕ) (e : find b m 0 (
   }
 
 module _ (b : Book) (s : List ℕ) where
-  broken-found : (m : List Constraint) (f : Finding) → find b m 0 (walk b) ≡ f → outcome f .number ≡ 25 → (t : Step) × FirstBroken b m t × (outcome f ≡ brokenAt b t)
+  broken-found : (m : List Constraint) (f : Finding) → find b m 0 (walk b) ≡ f → numberOf (outcome f) ≡ 25 → (t : Step) × FirstBroken b m t × (outcome f ≡ brokenAt b t)
   unfolding outcome
   broken-found m (clean n) e h = absurd (let z : ⊥ = omega arith in z)
   broken-found m (broken n t) e h = (t, first-broken b m t n e, rw (count-position b m t n e))
 
-  broken-weighed : (ps : List Part) → weighed b ps .number ≡ 25 → (t : Step) × FirstBroken b (rules ps) t × (weighed b ps ≡ brokenAt b t)
-  broken-weighed ps = weighed-by b ps (λ a. a .number ≡ 25 → (t : Step) × FirstBroken b (rules ps) t × (a ≡ brokenAt b t))
+  broken-weighed : (ps : List Part) → numberOf (weighed b ps) ≡ 25 → (t : Step) × FirstBroken b (rules ps) t × (weighed b ps ≡ brokenAt b t)
+  broken-weighed ps = weighed-by b ps (λ a. numberOf a ≡ 25 → (t : Step) × FirstBroken b (rules ps) t × (a ≡ brokenAt b t))
       (λ t h. absurd (let z : ⊥ = omega arith in z))
       (λ t u h. absurd (let z : ⊥ = omega arith in z))
       (λ t u h. broken-found (rules ps) (find b (rules ps) 0 (walk b)) refl h)
 
-  broken-read : (y : Got (List Part)) → modelIn s (b .arities) ≡ y → judged b y .number ≡ 25 →
+  broken-read : (y : Got (List Part)) → modelIn s (b .arities) ≡ y → numberOf (judged b y) ≡ 25 →
       (ps : List Part) × (c : Cursor) × (y ≡ got ps c) × ((t : Step) × FirstBroken b (rules ps) t × (judged b y ≡ brokenAt b t))
   unfolding judged modelIn
   broken-read (got ps c) e h = (ps, c, refl, broken-weighed ps h)
-  broken-read (no r) e h = absurd (refused (rw e at (parts-fine s (b .arities) (record { at = 0; left = 0 }))))
+  broken-read (no r) e h = absurd (fine (rw e at (parts-fine s (b .arities) (record { at = 0; left = 0 }))))
     where
-      refused : (r .number ≡ 21) ⊎ (r .number ≡ 22) → ⊥
-      refused (inl z) = omega arith
-      refused (inr z) = omega arith
+      fine : (r .number ≡ 21) ⊎ (r .number ≡ 22) → ⊥
+      fine (inl z) = omega arith
+      fine (inr z) = omega arith
 
   -- a reply 25 names the first broken instance, at its position
-  pub broken-exactly : examine b s .number ≡ 25 → Breaks b s
+  pub broken-exactly : numberOf (examine b s) ≡ 25 → Breaks b s
   unfolding examine
   broken-exactly h =
       let (ps, c, e, w) = broken-read (modelIn s (b .arities)) refl h in
@@ -334,5 +336,5 @@ module _ (b : Book) (s : List ℕ) where
 
 -- what is said of b and examine holds of every accepted book's bytes
 pub answered : (book s : List ℕ) {b : Book} → answer book ≡ accepted b → modelAnswer book s ≡ examine b s
-unfolding modelAnswer inBook
-answered book s e = rw e
+unfolding modelAnswer
+answered book s {b} e = on-accepted book (λ n p. plain (refused n p) 0) (λ c. examine c s) b e

@@ -14,7 +14,7 @@ use lib.ListN.{length}
 use Rattle.models.specs.Assignments.{width, count}
 use Rattle.models.specs.Order.{count-power}
 use Rattle.models.specs.Walk.{total}
-use Rattle.models.specs.Answer.{examine, modelAnswer}
+use Rattle.models.specs.Answer.{numberOf, examine, modelAnswer}
 use Rattle.models.specs.Written.{Fit, holds-exactly}
 use Rattle.models.specs.Exact.{accepted-exactly, answered}
 -- the walk tries just the assignments, each once, at its position
@@ -33,7 +33,7 @@ pub record Accepted (b : Book) (s : List ℕ) : Type 0 where
   pub few : total b ≤ 1000000
 
 -- accepted exactly then
-pub accepted : (b : Book) {s : List ℕ} → Bytes s → (examine b s .number ≡ 0) ↔ Accepted b s
+pub accepted : (b : Book) {s : List ℕ} → Bytes s → (numberOf (examine b s) ≡ 0) ↔ Accepted b s
 accepted b {s} y = (
   λ h.
       let a = accepted-exactly b s .0 h in

@@ -9,10 +9,11 @@ use lib.Seq.{getD-set-same, getD-set-other}
 use lib.Dec.{eqb}
 use Rattle.meaning.specs.Constraint.{Constraint}
 use Rattle.cursor.specs.declared.Cursor.{Cursor}
-use Rattle.cursor.specs.declared.Refusal.{Refusal}
+use Rattle.reply.specs.declared.Refusal.{Refusal}
 use Rattle.cursor.specs.declared.Step.{Step}
 use Rattle.cursor.specs.declared.Step.the-variants.{Moved, Refused}
-use Rattle.cursor.specs.Steps.{pick, refuse, stepThen}
+use Rattle.reply.specs.Answer.{refuse}
+use Rattle.cursor.specs.Steps.{pick, stepThen}
 use Rattle.cursor.specs.Tree.{Got, got, no, then, moved, treeAt, tree-read}
 use Rattle.cursor.specs.Meaning.{treeOf, treeIn}
 use Rattle.cursor.specs.Sound.{IsTree}

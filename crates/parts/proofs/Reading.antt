@@ -7,10 +7,11 @@ use mathlib.Core.List.{List, [], _∷_}
 use lib.ListN.{length, getD, take, drop, set, drop-of-length-le}
 use lib.Seq.{drop-cons, getD-take, length-take-le}
 use Rattle.cursor.specs.declared.Cursor.{Cursor}
-use Rattle.cursor.specs.declared.Refusal.{Refusal}
+use Rattle.reply.specs.declared.Refusal.{Refusal}
 use Rattle.cursor.specs.declared.Step.{Step}
 use Rattle.cursor.specs.declared.Step.the-variants.{Moved, Refused}
-use Rattle.cursor.specs.Steps.{refuse, stepThen}
+use Rattle.reply.specs.Answer.{refuse}
+use Rattle.cursor.specs.Steps.{stepThen}
 use Rattle.models.specs.Read.{numberIn, inModel, ruleAt, passAt, startsAt}
 
 pub in-model-is : (f : Refusal) {n : ℕ} {x : Step} → n ≡ numberIn (f .number) → x ≡ Refused (refuse n (f .place)) → x ≡ Refused (inModel f)

@@ -46,7 +46,7 @@ fn rule(c: cursor::Cursor, model: &[u8], n: u8) -> cursor::Step
     let fresh = cursor::Cursor { at: c.at, left: 64 };
     match fresh.constraint(model, n, 16) {
         cursor::Step::Moved(d) => cursor::Step::Moved(d),
-        cursor::Step::Refused(r) => cursor::Step::Refused(cursor::Refusal {
+        cursor::Step::Refused(r) => cursor::Step::Refused(reply::Refusal {
             number: in_model(r.number),
             place: r.place,
         }),
@@ -90,7 +90,7 @@ fn ended(c: cursor::Cursor, model: &[u8]) -> cursor::Step
     if c.at == model.len() {
         cursor::Step::Moved(c)
     } else {
-        cursor::Step::Refused(cursor::Refusal {
+        cursor::Step::Refused(reply::Refusal {
             number: 22,
             place: c.at,
         })

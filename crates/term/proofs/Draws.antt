@@ -5,7 +5,7 @@ use Prim.Native.Nat.{ℕ, zero, suc, _-_}
 use native.Mathlib.Numerals.{sub-one}
 use Rattle.meaning.specs.Constraint.{Constraint, truth, at-most, equal, not, and, or, remainder}
 use Rattle.cursor.specs.declared.Cursor.{Cursor}
-use Rattle.cursor.specs.declared.Refusal.{Refusal}
+use Rattle.reply.specs.declared.Refusal.{Refusal}
 use Rattle.cursor.specs.declared.Comparison.{Comparison}
 use Rattle.cursor.specs.declared.Comparison.the-variants.{AtMost, Equal}
 use Rattle.cursor.specs.declared.Remains.{Remains}

@@ -8,10 +8,8 @@ use lib.IntN.{ℤ}
 use Rattle.meaning.specs.Book as meant
 use Rattle.meaning.specs.Book.{placeWindow, variableWindow}
 use Rattle.cursor.specs.declared.Clause.{Clause}
-use Rattle.cursor.specs.declared.Refusal.{Refusal}
 use Rattle.cursor.specs.Meaning.{clauseIn}
 use Rattle.book.specs.declared.Header.{Header}
-use Rattle.book.specs.declared.Reading.{Reading}
 use Rattle.book.specs.declared.Reading.the-variants as readings
 use Rattle.book.specs.Read.{read}
 use Rattle.book.specs.Meaning.{bookIn}
@@ -27,10 +25,8 @@ use Rattle.script.specs.Lines.{relationLines, inputLine, inputLines, denied, pl
 use Rattle.term.specs.declared.Row.{Row}
 use Rattle.term.specs.declared.Name.{Name}
 use Rattle.term.specs.declared.Name.the-variants.{Flag, Item}
-use Rattle.text.specs.declared.Printed.{Printed}
-use Rattle.text.specs.declared.Printed.the-variants.{Short, Refused}
 use Rattle.text.specs.Sort.{sortOf}
-use Rattle.text.specs.Reply.{clauseOf, refusedBy}
+use Rattle.text.specs.Reply.{clauseOf}
 
 module _ (n : Name) {d e : List ℕ} {at r : ℕ} where
   pub sort-flag : {m : ℕ} → n ≡ Flag m → Wrote d e at r (bytes "Bool") → Wrote d e at r (bytes (sortOf n))
@@ -41,16 +37,7 @@ module _ (n : Name) {d e : List ℕ} {at r : ℕ} where
   unfolding sortOf
   sort-item h u = rw h u
 
-module _ (r : Reading) {p : Printed} where
-  pub refused-is : {f : Refusal} → r ≡ readings.Refused f → p ≡ Refused f → p ≡ refusedBy r
-  unfolding refusedBy
-  refused-is h e = rw h e
-
-  pub refused-not : {h : Header} → r ≡ readings.Good h → p ≡ Short 0 → p ≡ refusedBy r
-  unfolding refusedBy
-  refused-not h e = rw h e
-
-pub ruleset sorts = (sort-flag, sort-item, refused-is, refused-not)
+pub ruleset sorts = (sort-flag, sort-item)
 
 -- ---- loops over the relations
 

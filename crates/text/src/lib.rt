@@ -2,6 +2,7 @@
 ghost use mathlib.Core.Path.{_≡_};
 ghost use Prim.Native.Nat.{_≤_, _<_};
 ghost use lib.ListN.{length, take};
+ghost use Rattle.reply.specs.Room.{Leaves};
 ghost use Rattle.meaning.specs.Book.{none-such};
 ghost use Rattle.book.specs.declared.Reading.the-variants.{Good};
 ghost use Rattle.book.specs.Read.{read};
@@ -15,7 +16,7 @@ ghost use Rattle.script.specs.Lines as lines;
 ghost use Rattle.script.specs.Text.{text};
 ghost use Rattle.term.specs.Name.{nameOf, windowOf};
 ghost use Rattle.text.specs.Sort.{sortOf};
-ghost use Rattle.text.specs.Reply.{clauseOf, refusedBy, Prints};
+ghost use Rattle.text.specs.Reply.{clauseOf, printDue};
 use put::put;
 use put::put_all;
 use term::word;
@@ -198,35 +199,18 @@ fn write(room: &mut [u8], book: &[u8], h: book::Header) -> usize
     prop(room, a, h.query as usize)
 }
 
-// What printing answers: the length written, the length that the room would need, or the book's refusal.
-pub enum Printed {
-    Written(usize),
-    Short(usize),
-    Refused(cursor::Refusal),
-}
-
-// The answer for a refused book.
-fn refused(r: book::Reading) -> Printed
-    ensures { λ p. ⌜ p ≡ refusedBy r ⌝ }
-{
-    match r {
-        book::Reading::Refused(f) => Printed::Refused(f),
-        book::Reading::Good(_) => Printed::Short(0),
-    }
-}
-
 // Prints a book's text into the front of the room. The first pass measures it, in an empty room.
-pub fn print(book: &[u8], room: &mut [u8]) -> Printed
-    ensures { λ r. ⌜ Prints (now (book .entry)) (now (room .entry)) r (now (room .exit)) ⌝ }
+pub fn print(book: &[u8], room: &mut [u8]) -> reply::Answer
+    ensures { λ r. ⌜ Leaves (printDue (now (book .entry)) (now (room .entry))) r (now (room .exit)) ⌝ }
 {
-    let reading = book::read_book(book);
-    let book::Reading::Good(h) = reading else {
-        return refused(reading);
+    let read = book::read_book(book);
+    let book::Reading::Good(h) = read else {
+        return book::refused_by(read);
     };
     let need = write(&mut room[..0], book, h);
     if room.len() < need {
-        return Printed::Short(need);
+        return reply::refuse(9, need);
     }
     write(room, book, h);
-    Printed::Written(need)
+    reply::Answer::Done(need)
 }

@@ -44,15 +44,11 @@ fn print_case(book: &[u8], room: &mut [u8]) {
     fill(room);
     let printed = text::print(book, room);
     match printed {
-        text::Printed::Written(n) => {
+        reply::Answer::Done(n) => {
             console::print_answer(0, n);
             print_room(room, within(n, room.len()));
         }
-        text::Printed::Short(n) => {
-            console::print_answer(9, n);
-            print_room(room, 0);
-        }
-        text::Printed::Refused(r) => {
+        reply::Answer::Refused(r) => {
             console::print_answer(r.number, r.place);
             print_room(room, 0);
         }

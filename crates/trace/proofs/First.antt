@@ -14,19 +14,19 @@ use Rattle.meaning.specs.State.{bit, flags}
 use Rattle.lists.specs.Compare.{eqVals, inside, allIn, firstOut, firstDiff}
 use Rattle.lists.specs.Trace.{sum, cut, allRows, firstOutRows, width, size, firstOf, judgeFirst, checkWalk}
 use Rattle.lists.specs.Due.{walkDue, walk-due-all}
-use Rattle.lists.specs.Laws.{need-ok}
-use Rattle.cursor.specs.declared.Refusal.{Refusal}
-use Rattle.cursor.specs.Steps.{refuse}
+use Rattle.reply.specs.Among.{need-ok, told-done}
+use Rattle.reply.specs.declared.Refusal.{Refusal}
+use Rattle.reply.specs.Answer.{refuse}
 use Rattle.book.specs.declared.Header.{Header}
 use Rattle.book.specs.declared.Reading.the-variants as readings
 use Rattle.book.specs.Read.{read}
 use Rattle.book.specs.Meaning.{bookIn}
-use Rattle.facts.specs.declared.Answer.{Answer}
-use Rattle.facts.specs.declared.Answer.the-variants.{Accepted, Refused}
-use Rattle.facts.specs.Answer.{told}
+use Rattle.reply.specs.declared.Answer.{Answer}
+use Rattle.reply.specs.declared.Answer.the-variants.{Done, Refused}
+use Rattle.reply.specs.Answer.{told}
 use Rattle.facts.specs.Instance.{windowOf, windows}
 use Rattle.facts.proofs.Laws.{out-nil, out-in, out-out}
-use Rattle.facts.proofs.Judge.{told-ok, need-yes, need-no, need-le, need-gt, ends-well}
+use Rattle.facts.proofs.Judge.{need-yes, need-no, need-le, need-gt, ends-well}
 use Rattle.facts.proofs.Seats.{then-stop, then-on}
 use Rattle.state.specs.State.{front, Sized}
 use Rattle.state.specs.Laws.{front-replicate, bits-length}
@@ -103,9 +103,9 @@ module _ (s : List ℕ) (h : Header) (l : List ℤ) (more : ℕ) (good : read s 
   unfolding judgeFirst
   first-short k e = need-gt 13 0 _ (size (bookIn s h) flags) (length l) (rw (← z .is) k) e
 
-  pub first-long : {y : Answer} → y ≡ told (judgeFirst (bookIn s h) flags l) → y ≡ Accepted → more ≤ length l
+  pub first-long : {y : Answer} {k : ℕ} → y ≡ told (judgeFirst (bookIn s h) flags l) → y ≡ Done k → more ≤ length l
   unfolding judgeFirst
-  first-long p q = rw (z .is) (leb→le (size (bookIn s h) flags) (length l) (need-ok _ _ _ _ .0 (told-ok _ (sym p ∙ q)) .0))
+  first-long p q = rw (z .is) (leb→le (size (bookIn s h) flags) (length l) (need-ok _ _ _ _ .0 (told-done _ (sym p ∙ q)) .0))
 
   -- d is the first flag that is set, among n
   module _ (n : ℕ) {d : ℕ} (k : n ≡ h .relations) (long : more ≤ length l) (p : d ≡ firstDiff 0 l (map bit (front false n (replicate 16 false)))) where
@@ -162,7 +162,7 @@ module _ (s : List ℕ) (h : Header) (l : List ℤ) (more : ℕ) (good : read s 
           (need-yes 18 _ _ _ same (le-leb _ _ unset)
           (need-no 14 _ _ _ inside-all (lt-leb _ _ q) (e ∙ ap (λ (j : ℕ). Refused (refuse 14 j)) places)))
 
-      pub first-good : {x : Answer} → more ≤ o → x ≡ Accepted → x ≡ told (judgeFirst (bookIn s h) flags l)
+      pub first-good : {x : Answer} → more ≤ o → x ≡ Done 0 → x ≡ told (judgeFirst (bookIn s h) flags l)
       unfolding judgeFirst
       first-good q e =
           need-le 13 0 _ (size (bookIn s h) flags) (length l) (rw (← z .is) long)
@@ -175,7 +175,7 @@ module _ (s : List ℕ) (h : Header) (f : Fact) (l : List ℤ) {x y : Answer} (p
   pub whole-stop : {g : Refusal} → y ≡ Refused g → x ≡ Refused g → x ≡ told (checkWalk (bookIn s h) flags f l)
   whole-stop q e = rw (walk-due-all (bookIn s h) flags f l) (then-stop _ _ p q e)
 
-  pub whole-on : {more : ℕ} → Sized (bookIn s h) more → y ≡ Accepted → x ≡ told (walkDue (bookIn s h) flags f l more (firstOf (bookIn s h) flags l)) → x ≡ told (checkWalk (bookIn s h) flags f l)
+  pub whole-on : {more k : ℕ} → Sized (bookIn s h) more → y ≡ Done k → x ≡ told (walkDue (bookIn s h) flags f l more (firstOf (bookIn s h) flags l)) → x ≡ told (checkWalk (bookIn s h) flags f l)
   whole-on z q e = rw (walk-due-all (bookIn s h) flags f l) (then-on _ _ p q (rw (z .is) at e))
 
 pub ruleset wholes = (whole-stop, whole-on)

@@ -13,15 +13,15 @@ use lib.IntN.{ℤ, pos}
 use borrow.Author.Tests.{le-leb, lt-leb}
 use Rattle.meaning.specs.Book.{Book, Fact, body, head}
 use Rattle.meaning.specs.State.{State, write, flags}
-use Rattle.lists.specs.Answer as lists
-use Rattle.lists.specs.Answer.{need, andThen}
+use Rattle.reply.specs.Answer as reply
+use Rattle.reply.specs.Answer.{need, andThen}
 use Rattle.lists.specs.Compare.{eqVals, firstDiff}
 use Rattle.lists.specs.Instance.{clauseAt, stepAt, judgeEnabled}
 use Rattle.lists.specs.Trace.{size, stateNumbers, has, meets, judgeMove}
 use Rattle.lists.specs.Due.{walkDue, walk-due-none, walk-due-more}
-use Rattle.cursor.specs.declared.Refusal.{Refusal}
+use Rattle.reply.specs.declared.Refusal.{Refusal}
 use Rattle.cursor.specs.declared.Clause.{Clause}
-use Rattle.cursor.specs.Steps.{refuse}
+use Rattle.reply.specs.Answer.{refuse}
 use Rattle.cursor.specs.Sound.{Arguments}
 use Rattle.book.specs.declared.Header.{Header}
 use Rattle.book.specs.declared.Reading.the-variants as readings
@@ -29,15 +29,16 @@ use Rattle.book.specs.Read.{read}
 use Rattle.book.specs.Meaning.{bookIn}
 use Rattle.book.specs.Trailer.{read-trailed}
 use Rattle.book.proofs.Good.{good-holds}
-use Rattle.facts.specs.declared.Answer.{Answer}
-use Rattle.facts.specs.declared.Answer.the-variants.{Accepted, Refused}
+use Rattle.reply.specs.declared.Answer.{Answer}
+use Rattle.reply.specs.declared.Answer.the-variants.{Done, Refused}
 use Rattle.facts.specs.declared.Place.{Place}
-use Rattle.facts.specs.Answer.{told}
+use Rattle.reply.specs.Answer.{told}
 use Rattle.facts.specs.Place.{factIn, bodyPlace, headPlace}
 use Rattle.facts.specs.declared.Instance.{Instance}
 use Rattle.facts.specs.declared.Instance.the-variants as instances
 use Rattle.facts.specs.Instance.{numberIn, Stands, Judged}
-use Rattle.facts.proofs.Judge.{told-ok, told-no, need-yes, need-no, ends-well, arity-is}
+use Rattle.reply.specs.Among.{told-done, told-no}
+use Rattle.facts.proofs.Judge.{need-yes, need-no, ends-well, arity-is}
 use Rattle.facts.proofs.Seats.{seat-body, seat-head, vars-are, body-is, head-is, stands, stopped}
 use Rattle.state.specs.State.{front, factOf, Known, Sized}
 use Rattle.state.specs.Laws.{state-put, state-many}
@@ -113,7 +114,7 @@ module _ (s : List ℕ) (h : Header) (l : List ℤ) (j more : ℕ) (fs : List Bo
   compared : leb (j + more) d ≡ eqVals (take (size (bookIn s h) flags) (drop j l)) (stateNumbers (bookIn s h) flags (stateIn s h fs vs))
   compared = rw (z .is, q, ← many) (diff-all j (drop j l) (stateNumbers (bookIn s h) flags (stateIn s h fs vs)) (rw length-drop (omega (arith, many, z .is))))
 
-  pub next-same : {x : Answer} → j + more ≤ d → x ≡ Accepted → x ≡ told (nextState (bookIn s h) l j (stateIn s h fs vs))
+  pub next-same : {x : Answer} → j + more ≤ d → x ≡ Done 0 → x ≡ told (nextState (bookIn s h) l j (stateIn s h fs vs))
   unfolding nextState
   next-same k e = need-yes 19 _ _ _ compared (le-leb _ _ k) (ends-well e)
 
@@ -126,7 +127,7 @@ pub ruleset next-laws = (next-same, next-differs)
 -- ---- the end
 
 module _ (b : Book) (σ : State flags) (f : Fact) (n : ℕ) {x : Answer} {r : Bool} where
-  pub end-met : r ≡ has b flags f σ → r ≡ true → x ≡ Accepted → x ≡ told (ends b σ f n)
+  pub end-met : r ≡ has b flags f σ → r ≡ true → x ≡ Done 0 → x ≡ told (ends b σ f n)
   unfolding ends
   end-met p q e = need-yes 17 n _ _ p q (ends-well e)
 
@@ -177,6 +178,6 @@ module _ (s : List ℕ) (h : Header) (f : Fact) (l : List ℤ) (i : ℕ) (σ : S
       unfolding andThen told
       due-differs {g} q e = rw (opened, told-no (nextState (bookIn s h) l (p .from + p .many) τ) g (sym n ∙ q)) e
 
-      pub due-on : {x : Answer} {more : ℕ} → Sized (bookIn s h) more → y ≡ Accepted → x ≡ told (walkDue (bookIn s h) flags f l (p .from + p .many + more) τ) → x ≡ told (walkDue (bookIn s h) flags f l i σ)
+      pub due-on : {x : Answer} {more k : ℕ} → Sized (bookIn s h) more → y ≡ Done k → x ≡ told (walkDue (bookIn s h) flags f l (p .from + p .many + more) τ) → x ≡ told (walkDue (bookIn s h) flags f l i σ)
       unfolding andThen
-      due-on z q e = rw (opened, told-ok (nextState (bookIn s h) l (p .from + p .many) τ) (sym n ∙ q)) (rw (z .is) at e)
+      due-on z q e = rw (opened, told-done (nextState (bookIn s h) l (p .from + p .many) τ) (sym n ∙ q)) (rw (z .is) at e)

@@ -8,7 +8,7 @@ use lib.ListN.{length, take, drop}
 use lib.IntN.{ℤ}
 use Rattle.meaning.specs.Book.{Book, Fact, head, body}
 use Rattle.meaning.specs.State.{State, flags}
-use Rattle.lists.specs.Answer.{Answer, ok, refused, need}
+use Rattle.reply.specs.Answer.{Answer, ok, refused, need}
 use Rattle.lists.specs.Compare.{eqVals, firstDiff}
 use Rattle.lists.specs.Instance.{clauseAt, stepAt, judgeEnabled}
 use Rattle.lists.specs.Trace.{size, stateNumbers, has, meets}

@@ -9,7 +9,7 @@ ghost use Rattle.lists.specs.Due.{walkDue};
 ghost use Rattle.book.specs.Read.{read};
 ghost use Rattle.book.specs.Meaning.{bookIn};
 ghost use Rattle.book.specs.declared.Reading.the-variants.{Good};
-ghost use Rattle.facts.specs.Answer.{told, Answers};
+ghost use Rattle.reply.specs.Answer.{told, Answers};
 ghost use Rattle.state.specs.State.{Sized};
 ghost use Rattle.trace.specs.Step.{stateIn, nextState, ends, Steps};
 ghost use Rattle.trace.specs.Answer.{answer};
@@ -17,28 +17,28 @@ ghost use Rattle.trace.specs.Answer.{answer};
 // What judging a step answers: where its head stands, or the refusal.
 pub enum Stepped {
     Head(facts::Place),
-    Refused(cursor::Refusal),
+    Refused(reply::Refusal),
 }
 
 // 13, 18, 14: the first state, of `size` numbers
-fn judged_first(book: &[u8], h: book::Header, list: &[i32], size: usize) -> facts::Answer
+fn judged_first(book: &[u8], h: book::Header, list: &[i32], size: usize) -> reply::Answer
     requires { ⌜ read (now book) ≡ Good h ⌝ }
     requires { ⌜ Sized (bookIn (now book) h) size ⌝ }
     ensures { λ r. ⌜ r ≡ told (judgeFirst (bookIn (now (book .entry)) h) state.flags (now (list .entry))) ⌝ }
 {
     if list.len() < size {
-        return facts::refuse(13, 0);
+        return reply::refuse(13, 0);
     }
     let n = h.relations as usize;
     let set = state::flags_differ(list, 0, &[false; 16], n);
     if set < n {
-        return facts::refuse(18, set);
+        return reply::refuse(18, set);
     }
     let out = facts::first_out(list, n, size - n, h);
     if out < size {
-        facts::refuse(14, out)
+        reply::refuse(14, out)
     } else {
-        facts::Answer::Accepted
+        reply::Answer::Done(0)
     }
 }
 
@@ -63,7 +63,7 @@ fn step_at(
             if state::meets(book, h, flags, rows, list, facts::body_of(l, i + 1)) {
                 Stepped::Head(facts::head_of(l, i + 1))
             } else {
-                Stepped::Refused(cursor::Refusal {
+                Stepped::Refused(reply::Refusal {
                     number: 16,
                     place: i,
                 })
@@ -81,7 +81,7 @@ fn next_at(
     size: usize,
     flags: &[bool; 16],
     rows: &[[i32; 8]; 16],
-) -> facts::Answer
+) -> reply::Answer
     requires { ⌜ read (now book) ≡ Good h ⌝ }
     requires { ⌜ Sized (bookIn (now book) h) size ⌝ }
     requires { ⌜ at + size ≤ length (now list) ⌝ }
@@ -89,9 +89,9 @@ fn next_at(
 {
     let d = state::differs(book, h, flags, rows, list, at);
     if d < at + size {
-        facts::refuse(19, d)
+        reply::refuse(19, d)
     } else {
-        facts::Answer::Accepted
+        reply::Answer::Done(0)
     }
 }
 
@@ -104,15 +104,15 @@ fn ended(
     rows: &[[i32; 8]; 16],
     relation: usize,
     values: &[i32],
-) -> facts::Answer
+) -> reply::Answer
     requires { ⌜ read (now book) ≡ Good h ⌝ }
     requires { ⌜ (relation < h .relations) × (length (now values) ≡ getD (now book) relation 0) ⌝ }
     ensures { λ r. ⌜ r ≡ told (ends (bookIn (now (book .entry)) h) (stateIn (now (book .entry)) h (now (flags .entry)) (now (rows .entry))) (goal relation (now (values .entry))) (length (now (list .entry)))) ⌝ }
 {
     if state::holds(book, h, flags, rows, relation, values) {
-        facts::Answer::Accepted
+        reply::Answer::Done(0)
     } else {
-        facts::refuse(17, list.len())
+        reply::refuse(17, list.len())
     }
 }
 
@@ -124,7 +124,7 @@ fn walk(
     size: usize,
     relation: usize,
     values: &[i32],
-) -> facts::Answer
+) -> reply::Answer
     requires { ⌜ read (now book) ≡ Good h ⌝ }
     requires { ⌜ Sized (bookIn (now book) h) size ⌝ }
     requires { ⌜ size ≤ length (now list) ⌝ }
@@ -136,15 +136,15 @@ fn walk(
     let mut i = size;
     while i < list.len() {
         match step_at(book, h, list, i, size, &flags, &rows) {
-            Stepped::Refused(r) => return facts::Answer::Refused(r),
+            Stepped::Refused(r) => return reply::Answer::Refused(r),
             Stepped::Head(p) => {
                 let r = p.relation as usize;
                 flags[r] = true;
                 rows[r] = state::row_of(book, h, list, p);
                 let at = p.from + (p.many as usize);
                 match next_at(book, h, list, at, size, &flags, &rows) {
-                    facts::Answer::Refused(g) => return facts::Answer::Refused(g),
-                    facts::Answer::Accepted => {
+                    reply::Answer::Refused(g) => return reply::Answer::Refused(g),
+                    reply::Answer::Done(_) => {
                         i = at + size;
                     }
                 }
@@ -161,15 +161,15 @@ fn traced(
     list: &[i32],
     relation: usize,
     values: &[i32],
-) -> facts::Answer
+) -> reply::Answer
     requires { ⌜ read (now book) ≡ Good h ⌝ }
     requires { ⌜ (relation < h .relations) × (length (now values) ≡ getD (now book) relation 0) ⌝ }
     ensures { λ r. ⌜ r ≡ told (checkWalk (bookIn (now (book .entry)) h) state.flags (goal relation (now (values .entry))) (now (list .entry))) ⌝ }
 {
     let size = state::size(book, h);
     match judged_first(book, h, list, size) {
-        facts::Answer::Refused(r) => facts::Answer::Refused(r),
-        facts::Answer::Accepted => walk(book, h, list, size, relation, values),
+        reply::Answer::Refused(r) => reply::Answer::Refused(r),
+        reply::Answer::Done(_) => walk(book, h, list, size, relation, values),
     }
 }
 
@@ -180,26 +180,26 @@ pub fn check_in(
     list: &[i32],
     relation: usize,
     values: &[i32],
-) -> facts::Answer
+) -> reply::Answer
     requires { ⌜ read (now book) ≡ Good h ⌝ }
     ensures { λ r. ⌜ r ≡ told (checkTrace (bookIn (now (book .entry)) h) state.flags relation (now (values .entry)) (now (list .entry))) ⌝ }
 {
     match facts::judged_goal(book, h, relation, values) {
-        facts::Answer::Refused(r) => facts::Answer::Refused(r),
-        facts::Answer::Accepted => match facts::judged_length(list) {
-            facts::Answer::Refused(r) => facts::Answer::Refused(r),
-            facts::Answer::Accepted => traced(book, h, list, relation, values),
+        reply::Answer::Refused(r) => reply::Answer::Refused(r),
+        reply::Answer::Done(_) => match facts::judged_length(list) {
+            reply::Answer::Refused(r) => reply::Answer::Refused(r),
+            reply::Answer::Done(_) => traced(book, h, list, relation, values),
         },
     }
 }
 
 // Whether a list is a trace that reaches the goal, a relation and its values, in the system of the book that the bytes hold: the answer for any input.
-pub fn check(book: &[u8], list: &[i32], relation: usize, values: &[i32]) -> facts::Answer
+pub fn check(book: &[u8], list: &[i32], relation: usize, values: &[i32]) -> reply::Answer
     ensures { λ r. ⌜ Answers (answer (now (book .entry)) (now (list .entry)) relation (now (values .entry))) r ⌝ }
 {
     let read = book::read_book(book);
     let book::Reading::Good(h) = read else {
-        return facts::refused_by(read);
+        return book::refused_by(read);
     };
     check_in(book, h, list, relation, values)
 }

@@ -27,13 +27,10 @@ fn write_front(room: &[u8], n: usize)
 fn run(book: &[u8], room: &mut [u8]) {
     let printed = text::print(book, room);
     match printed {
-        text::Printed::Written(n) => {
+        reply::Answer::Done(n) => {
             write_front(room, within(n, room.len()));
         }
-        text::Printed::Short(n) => {
-            refuse(9, n);
-        }
-        text::Printed::Refused(r) => {
+        reply::Answer::Refused(r) => {
             refuse(r.number, r.place);
         }
     }

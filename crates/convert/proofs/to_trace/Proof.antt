@@ -1,10 +1,10 @@
 use borrow.Author.Needs.{needs}
-use Rattle.convert.proofs.Laws.{replies-length, calls, accepted}
+use Rattle.convert.proofs.Laws.{replies-length, conversions, accepted}
 use Rattle.convert.proofs.to_trace.Statement.{statement}
 use Rattle.convert.proofs.to_trace.Tie as tie
 
 returns : tie.Need-returns
-returns c = search calls
+returns c = search conversions
 
 check-in-requires : tie.Need-check-in-requires
 check-in-requires c κs = search accepted
@@ -13,13 +13,13 @@ traced-requires : tie.Need-traced-requires
 traced-requires c κs = search accepted
 
 returns-2 : tie.Need-returns-2
-returns-2 c = search calls
+returns-2 c = search conversions
 
 same-length : tie.Need-same-length
 same-length c = replies-length _ _ _ (c .before .traced .ensures)
 
 returns-3 : tie.Need-returns-3
-returns-3 c = search calls
+returns-3 c = search conversions
 
 pub to-trace-spec : {M : Type 1} → statement M
 to-trace-spec =

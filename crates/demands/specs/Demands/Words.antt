@@ -7,7 +7,7 @@ use lib.IntN.{ℤ}
 use Rattle.book.specs.Answer as books
 use Rattle.book.specs.Answer.{Answers, answer, accepted, refused}
 use Rattle.book.specs.Read.{constraintOf}
-use Rattle.lists.specs.Answer.{number, place}
+use Rattle.reply.specs.Answer.{number, place}
 use Rattle.facts.specs.Answer as facts
 use Rattle.derivation.specs.Answer as derivation
 use Rattle.trace.specs.Answer as trace
@@ -44,8 +44,8 @@ pub use Rattle.models.specs.Answer.{plain}
 pub use Rattle.script.specs.Text.{script, text}
 pub use Rattle.sexp.specs.Parse.{parse}
 -- the code's own types of replies, with their cases; a refusal is `refuse number place`
-pub use Rattle.cursor.specs.declared.Refusal.{Refusal}
-pub use Rattle.cursor.specs.Steps.{refuse}
+pub use Rattle.reply.specs.declared.Refusal.{Refusal}
+pub use Rattle.reply.specs.Answer.{refuse}
 pub use Rattle.book.specs.declared.Header.{Header}
 pub use Rattle.book.specs.declared.Reading.{Reading}
 pub use Rattle.book.specs.declared.Reading.the-variants as readings

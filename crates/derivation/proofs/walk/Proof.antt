@@ -6,7 +6,7 @@ use Rattle.lists.specs.Derivation.{check, goal}
 use Rattle.lists.specs.Due.{due}
 use Rattle.cursor.proofs.Laws.{via}
 use Rattle.book.specs.Meaning.{bookIn}
-use Rattle.facts.specs.Answer.{told}
+use Rattle.reply.specs.Answer.{told}
 use Rattle.facts.specs.Place.{Seated}
 use Rattle.facts.proofs.Seats.{seat-none}
 use Rattle.derivation.specs.Step.{factAt, Leads}

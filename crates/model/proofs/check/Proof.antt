@@ -26,6 +26,7 @@ check-spec =
     (λ c. search needs)
     (λ c. search needs)
     (λ c κs. search needs)
+    (λ c κs. search needs)
     returns
     read-model-requires
     (λ c. search needs)

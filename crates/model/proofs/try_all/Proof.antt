@@ -46,7 +46,9 @@ try-all-spec =
     loop-holds
     (λ c κs. search needs)
     try-clause-requires
+    (λ c. search needs)
     returns
+    (λ c. search needs)
     (λ c. search needs)
     (λ c. search needs)
     loop-again

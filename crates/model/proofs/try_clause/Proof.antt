@@ -2,6 +2,7 @@ use borrow.Author.Needs.{needs}
 use Prim.Native.Nat.{_+_, _≤_}
 use native.Mathlib.Omega.{arith}
 use mathlib.Core.Path.{_≡_, sym, _∙_}
+use Rattle.reply.specs.Answer.{says}
 use Rattle.cursor.proofs.Laws.{via}
 use Rattle.model.specs.Reply.{clauseAnswer}
 use Rattle.model.proofs.Trying.{front-start, ready-at, Padded, padded-first, padded-next, due, due-first, due-broken, due-next, due-none}
@@ -37,6 +38,7 @@ loop-again : tie.Need-loop-again Inv-loop μ-loop
 loop-again c = (omega arith, search padded-next, search (via, due-next))
 
 returns-2 : tie.Need-returns-2 Inv-loop μ-loop
+unfolding says
 returns-2 c = c .simply .ensures ∙ sym (due-none _ _ _ _ _ _ _ _ (omega arith)) ∙ c .before .before .loop .inv .2
 
 pub try-clause-spec : {M : Type 1} → statement M
@@ -53,6 +55,7 @@ try-clause-spec =
     (λ c. search needs)
     (λ c. search needs)
     breaks-at-requires
+    (λ c κs. search needs)
     returns
     (λ c κs. search needs)
     (λ c. search needs)

@@ -32,7 +32,9 @@ weigh-spec =
     (λ c. search needs)
     truth-requires
     (λ c κs. search needs)
+    (λ c κs. search needs)
     returns
+    (λ c κs. search needs)
     (λ c κs. search needs)
     (λ c κs. search needs)
     returns-2

@@ -14,7 +14,7 @@ use Rattle.lists.specs.Due.{walkDue}
 use Rattle.cursor.proofs.Laws.{via}
 use Rattle.book.specs.Meaning.{bookIn}
 use Rattle.facts.specs.declared.Place.{Place}
-use Rattle.facts.specs.Answer.{told}
+use Rattle.reply.specs.Answer.{told}
 use Rattle.facts.specs.Instance.{numberIn}
 use Rattle.state.proofs.Shape.{shape-read}
 use Rattle.trace.specs.Step.{stateIn, Leads}
@@ -125,7 +125,7 @@ loop-again c =
       rw length-set (t d .loop .inv .1),
       omega (arith, a d .pre .1 .0 .is),
       via (t d .loop .inv .3)
-          (due-on (a d .args .book .now) (a d .args .h) _ (a d .args .list .now) (t d .loop .i) _ (c .before .before .before .before .before .before .before .before .before .before .before .before .before .before .before .loop-test .taken) _ w (put (c .before .before .before .before .before .before .before)) (c .before .before .next-at .ensures) (a d .pre .1 .0) (search needs) refl),
+          (due-on (a d .args .book .now) (a d .args .h) _ (a d .args .list .now) (t d .loop .i) _ (c .before .before .before .before .before .before .before .before .before .before .before .before .before .before .before .loop-test .taken) _ w (put (c .before .before .before .before .before .before .before)) (c .before .before .next-at .ensures) (a d .pre .1 .0) (c .enum-told .given .1) refl),
     )
 
 ended-requires : tie.Need-ended-requires Inv-loop μ-loop

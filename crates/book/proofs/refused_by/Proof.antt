@@ -1,7 +1,7 @@
 use borrow.Author.Needs.{needs}
-use Rattle.facts.proofs.Judge.{refusals}
-use Rattle.facts.proofs.refused_by.Statement.{statement}
-use Rattle.facts.proofs.refused_by.Tie as tie
+use Rattle.book.proofs.Laws.{refusals}
+use Rattle.book.proofs.refused_by.Statement.{statement}
+use Rattle.book.proofs.refused_by.Tie as tie
 
 returns : tie.Need-returns
 returns c = search refusals

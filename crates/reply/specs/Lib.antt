@@ -1,0 +1,3 @@
+pub mod Answer
+pub mod Room
+pub mod Among
