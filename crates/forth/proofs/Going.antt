@@ -134,6 +134,9 @@ module _ {s : List ℕ} {h : Header} {t : List (List ℕ)} (table : Tabled s h t
     pub step-room : i + 1 + clauseAt (bookIn s h) k .vars ≤ length l
     step-room = rw (← same) (omega (arith, step-here .whole))
 
+    pub step-small : {r : ℕ} → r ≡ getD (getD t k []) 4 0 → r < 16
+    step-small u = omega (arith, u, head-below table step-below l (i + 1), relations-few s h (table .good))
+
     module _ {m r : ℕ} (v : m ≡ getD (getD t k []) 0 0) (u : r ≡ getD (getD t k []) 4 0) (few : length fs ≡ 16) (many : length vs ≡ 16)
         {vs′ : List (List ℤ)} (p : vs′ ≡ rowPut (head (bookIn s h) (stepAt (bookIn s h) k (drop (i + 1) l))) vs) where
       abbrev σ : State flags

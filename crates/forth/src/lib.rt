@@ -40,13 +40,7 @@ fn write_flags(flags: &[bool; 16], n: usize, room: &mut [i32], at: usize)
 }
 
 // the places of all relations
-fn write_places(
-    book: &[u8],
-    h: book::Header,
-    rows: &[[i32; 8]; 16],
-    room: &mut [i32],
-    at: usize,
-)
+fn write_places(book: &[u8], h: book::Header, rows: &[[i32; 8]; 16], room: &mut [i32], at: usize)
     requires { ⌜ read (now book) ≡ Good h ⌝ }
     requires { ⌜ at + sum (bookIn (now book) h .arities) ≤ length (now room) ⌝ }
     ensures { λ _. ⌜ Put (now (room .entry)) (now (room .exit)) at (flat (rowsOf (bookIn (now (book .entry)) h .arities) (now (rows .entry)))) ⌝ }
