@@ -139,7 +139,7 @@ unfolding inside
 window-inside l p n j m x h w q e = rw (getD-take n (drop p l) j (pos 0) h, getD-drop p l j (pos 0), ← (w .lo), ← (w .hi)) (sym q ∙ e)
 
 -- all values are inside where none is the first outside
-all-by : (w : ℕ → Window) (vs : List ℤ) (j : ℕ) → j + length vs ≤ firstOut w j vs → allIn w vs ≡ true
+pub all-by : (w : ℕ → Window) (vs : List ℤ) (j : ℕ) → j + length vs ≤ firstOut w j vs → allIn w vs ≡ true
 unfolding allIn
 all-by w [] j h = refl
 all-by w (v ∷ vs) j h = go (inside (w 0) v) refl (λ k. all-by (λ i. w (suc i)) vs (suc j) k)
@@ -148,7 +148,7 @@ all-by w (v ∷ vs) j h = go (inside (w 0) v) refl (λ k. all-by (λ i. w (suc i
     go true e ih = ap (λ (b : Bool). b && allIn (λ i. w (suc i)) vs) e ∙ ih (let k : firstOut w j (v ∷ vs) ≡ firstOut (λ i. w (suc i)) (suc j) vs = out-in w v vs j e in omega arith)
     go false e ih = absurd (let k : firstOut w j (v ∷ vs) ≡ j = out-out w v vs j e in let z : ⊥ = omega arith in z)
 
-some-by : (w : ℕ → Window) (vs : List ℤ) (j : ℕ) → firstOut w j vs < j + length vs → allIn w vs ≡ false
+pub some-by : (w : ℕ → Window) (vs : List ℤ) (j : ℕ) → firstOut w j vs < j + length vs → allIn w vs ≡ false
 unfolding allIn
 some-by w [] j h = absurd (let e : firstOut w j [] ≡ j = out-nil w j in let z : ⊥ = omega arith in z)
 some-by w (v ∷ vs) j h = go (inside (w 0) v) refl (λ k. some-by (λ i. w (suc i)) vs (suc j) k)

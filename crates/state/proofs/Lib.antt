@@ -1,3 +1,4 @@
 pub mod Difference
 pub mod Shape
+pub mod Rows
 pub mod Laws

@@ -4,13 +4,15 @@ use mathlib.Core.Bool.{Bool, true, false, _&&_}
 use mathlib.Core.List.{List, [], _∷_, _++_, map}
 use Prim.Native.Nat.{ℕ, zero, suc, _+_, _≤_, _<_}
 use native.Mathlib.Nat.{not-suc-le-zero, le-of-suc-le-suc}
-use lib.ListN.{length, getD, take, drop, set, replicate, length-append, length-map, List·getD-map}
+use native.Mathlib.Omega.{arith}
+use lib.ListN.{length, getD, take, drop, set, replicate, length-append, length-map, length-set, length-drop, List·getD-map}
+use lib.Seq.{length-take-le, take-take}
 use lib.IntN.{ℤ, pos}
 use Rattle.meaning.specs.Book.{Book, Fact}
-use Rattle.meaning.specs.State.{write, flags, bit}
+use Rattle.meaning.specs.State.{Control, write, flags, bit}
 use Rattle.lists.specs.Compare.{eqVals}
-use Rattle.lists.specs.Trace.{flat, sum, stateNumbers, has}
-use Rattle.state.specs.State.{front, rowsOf, stateOf}
+use Rattle.lists.specs.Trace.{flat, sum, cut, width, size, stateNumbers, has, firstOf}
+use Rattle.state.specs.State.{front, rowsOf, placed, stateOf, over, rowPut, firstRows}
 
 -- ---- the front of a list
 
@@ -49,12 +51,32 @@ module _ {A : Type 0} (d : A) where
   front-replicate (suc n) zero = ap (λ (t : List A). d ∷ t) (front-replicate n zero)
   front-replicate (suc n) (suc m) = ap (λ (t : List A). d ∷ t) (front-replicate n m)
 
-  -- one more
-  pub front-more : (n : ℕ) (l : List A) (x : A) → n < length l → front d (suc n) (set l n x) ≡ front d n l ++ (x ∷ [])
+  -- values and then others: the values
+  pub front-over : (xs ys : List A) → front d (length xs) (xs ++ ys) ≡ xs
   unfolding front
-  front-more n [] x h = absurd (not-suc-le-zero h)
-  front-more zero (y ∷ l) x h = refl
-  front-more (suc n) (y ∷ l) x h = ap (λ (t : List A). y ∷ t) (front-more n l x (le-of-suc-le-suc h))
+  front-over [] ys = refl
+  front-over (x ∷ xs) ys = ap (λ (t : List A). x ∷ t) (front-over xs ys)
+
+  -- the front of a longer front
+  pub front-front : (n m : ℕ) (l : List A) → n ≤ m → front d n (front d m l) ≡ front d n l
+  unfolding front
+  front-front zero m l h = refl
+  front-front (suc n) zero l h = absurd (not-suc-le-zero h)
+  front-front (suc n) (suc m) [] h = ap (λ (t : List A). d ∷ t) (front-front n m [] (le-of-suc-le-suc h))
+  front-front (suc n) (suc m) (x ∷ l) h = ap (λ (t : List A). x ∷ t) (front-front n m l (le-of-suc-le-suc h))
+
+  -- one more than l has: it stands where d stood
+  pub front-more : (m : ℕ) (l : List A) (x : A) → length l < m → set (front d m l) (length l) x ≡ front d m (l ++ (x ∷ []))
+  unfolding front
+  front-more zero l x h = absurd (not-suc-le-zero h)
+  front-more (suc m) [] x h = refl
+  front-more (suc m) (y ∷ l) x h = ap (λ (t : List A). y ∷ t) (front-more m l x (le-of-suc-le-suc h))
+
+  pub front-next : (m : ℕ) (l : List A) (e : A) → length l < m → getD (front d m l) (length l) e ≡ d
+  unfolding front
+  front-next zero l e h = absurd (not-suc-le-zero h)
+  front-next (suc m) [] e h = refl
+  front-next (suc m) (y ∷ l) e h = front-next m l e (le-of-suc-le-suc h)
 
 -- ---- flags as numbers
 
@@ -89,39 +111,82 @@ rows-set (n ∷ ns) [] r v h = absurd (not-suc-le-zero h)
 rows-set (n ∷ ns) (u ∷ vs) zero v h = refl
 rows-set (n ∷ ns) (u ∷ vs) (suc r) v h = ap (λ (t : List (List ℤ)). front (pos 0) n u ∷ t) (rows-set ns vs r v (le-of-suc-le-suc h))
 
--- one row more
-pub rows-more : (ns : List ℕ) (vs : List (List ℤ)) (r : ℕ) (v : List ℤ) → r < length ns → r < length vs
-    → rowsOf (take (suc r) ns) (set vs r v) ≡ rowsOf (take r ns) vs ++ (front (pos 0) (getD ns r 0) v ∷ [])
-unfolding rowsOf
-rows-more [] vs r v h k = absurd (not-suc-le-zero h)
-rows-more (n ∷ ns) [] r v h k = absurd (not-suc-le-zero k)
-rows-more (n ∷ ns) (u ∷ vs) zero v h k = refl
-rows-more (n ∷ ns) (u ∷ vs) (suc r) v h k = ap (λ (t : List (List ℤ)). front (pos 0) n u ∷ t) (rows-more ns vs r v (le-of-suc-le-suc h) (le-of-suc-le-suc k))
-
 pub rows-many : (ns : List ℕ) (vs : List (List ℤ)) → length (flat (rowsOf ns vs)) ≡ sum ns
 unfolding rowsOf flat sum
 rows-many [] vs = refl
 rows-many (n ∷ ns) [] = length-append (front (pos 0) n []) (flat (rowsOf ns [])) ∙ ap₂ _+_ (front-length (pos 0) n []) (rows-many ns [])
 rows-many (n ∷ ns) (v ∷ vs) = length-append (front (pos 0) n v) (flat (rowsOf ns vs)) ∙ ap₂ _+_ (front-length (pos 0) n v) (rows-many ns vs)
 
--- ---- the state
+-- a fact put in
+pub rows-put : (ns : List ℕ) (vs : List (List ℤ)) (f : Fact) → length (f .vals) ≡ getD ns (f .rel) 0 → f .rel < length vs
+    → rowsOf ns (rowPut f vs) ≡ set (rowsOf ns vs) (f .rel) (f .vals)
+unfolding rowPut over
+rows-put ns vs f e h = rows-set ns vs (f .rel) _ h ∙ ap (set (rowsOf ns vs) (f .rel)) (rw (← e) (front-over (pos 0) (f .vals) _))
+
+pub put-length : (f : Fact) (vs : List (List ℤ)) → length (rowPut f vs) ≡ length vs
+unfolding rowPut
+put-length f vs = length-set vs (f .rel) _
+
+-- the rows of a list's places hold those places
+rows-first : (ns : List ℕ) (m : ℕ) (l : List ℤ) → length ns ≤ m → ((r : ℕ) → r < length ns → getD ns r 0 ≤ 8) → sum ns ≤ length l
+    → rowsOf ns (front (replicate 8 (pos 0)) m (map (front (pos 0) 8) (cut ns l))) ≡ cut ns l
+unfolding rowsOf front cut sum
+rows-first [] m l h small k = refl
+rows-first (n ∷ ns) zero l h small k = absurd (not-suc-le-zero h)
+rows-first (n ∷ ns) (suc m) l h small k =
+    let own : front (pos 0) n (front (pos 0) 8 (take n l)) ≡ take n l =
+    front-front (pos 0) n 8 (take n l) (small 0 (omega arith)) ∙ front-take (pos 0) n (take n l) (rw (length-take-le n l (omega arith)) (omega arith)) ∙ take-take n n l (omega arith) in
+    ap₂ {C = List (List ℤ)} (λ v vs. v ∷ vs) own (rows-first ns m (drop n l) (le-of-suc-le-suc h) (λ r b. small (suc r) (omega arith)) (rw length-drop (omega arith)))
+
+-- ---- a state of any control
+
+module _ (C : Control) where
+  module _ (κ : C .Ctl) (ns : List ℕ) (vs : List (List ℤ)) where
+    -- a fact is put in: its row is replaced
+    pub placed-put : (f : Fact) → length (f .vals) ≡ getD ns (f .rel) 0 → f .rel < length vs
+        → placed C (C .next (f .rel) κ) ns (rowPut f vs) ≡ write C f (placed C κ ns vs)
+    placed-put f e h = λ i. record { ctl = C .next (f .rel) κ; rows = rows-put ns vs f e h i }
+
+    -- how many numbers it has
+    pub placed-many : (b : Book) → length (stateNumbers b C (placed C κ ns vs)) ≡ length (C .code κ) + sum ns
+    unfolding stateNumbers
+    placed-many b = length-append (C .code κ) (flat (rowsOf ns vs)) ∙ ap (λ (n : ℕ). length (C .code κ) + n) (rows-many ns vs)
+
+    -- whether it holds a fact
+    pub placed-has : (b : Book) (f : Fact) → f .rel < length ns
+        → has b C f (placed C κ ns vs) ≡ (C .held (f .rel) κ && eqVals (front (pos 0) (getD ns (f .rel) 0) (getD vs (f .rel) [])) (f .vals))
+    unfolding has
+    placed-has b f h = rw (rows-at ns vs (f .rel) h)
+
+  -- the first state that a list begins with
+  pub placed-first : (b : Book) (l : List ℤ) → length (b .arities) ≤ 16 → ((r : ℕ) → r < length (b .arities) → getD (b .arities) r 0 ≤ 8) → size b C ≤ length l
+      → placed C (C .start (length (b .arities))) (b .arities) (firstRows (b .arities) (drop (width b C) l)) ≡ firstOf b C l
+  unfolding firstOf firstRows size
+  placed-first b l few small long =
+      λ i. record { ctl = C .start (length (b .arities)); rows = rows-first (b .arities) 16 (drop (width b C) l) few small (rw length-drop (omega arith)) i }
+
+-- ---- the state of flags
 
 module _ (ns : List ℕ) (fs : List Bool) (vs : List (List ℤ)) where
   -- a fact is put in: its flag set, its row replaced
-  pub state-put : (r : ℕ) (v : List ℤ) → r < length fs → r < length vs
-      → stateOf ns (set fs r true) (set vs r v) ≡ write flags (record { rel = r; vals = front (pos 0) (getD ns r 0) v }) (stateOf ns fs vs)
+  pub state-put : (f : Fact) → length (f .vals) ≡ getD ns (f .rel) 0 → f .rel < length fs → f .rel < length vs
+      → stateOf ns (set fs (f .rel) true) (rowPut f vs) ≡ write flags f (stateOf ns fs vs)
   unfolding stateOf
-  state-put r v h k = λ i. record { ctl = front-set false (length ns) fs r true h i; rows = rows-set ns vs r v k i }
+  state-put f e h k = λ i. record { ctl = front-set false (length ns) fs (f .rel) true h i; rows = rows-put ns vs f e k i }
 
-  -- how many numbers it has
   pub state-many : (b : Book) → length (stateNumbers b flags (stateOf ns fs vs)) ≡ length ns + sum ns
-  unfolding stateNumbers stateOf
-  state-many b =
-      length-append (map bit (front false (length ns) fs)) (flat (rowsOf ns vs))
-      ∙ ap₂ _+_ (bits-length (length ns) fs) (rows-many ns vs)
+  unfolding stateOf
+  state-many b = placed-many flags _ ns vs b ∙ ap (λ (n : ℕ). n + sum ns) (bits-length (length ns) fs)
 
-  -- whether it holds a fact
   pub state-has : (b : Book) (f : Fact) → f .rel < length ns
       → has b flags f (stateOf ns fs vs) ≡ (getD fs (f .rel) false && eqVals (front (pos 0) (getD ns (f .rel) 0) (getD vs (f .rel) [])) (f .vals))
-  unfolding has stateOf
-  state-has b f h = rw (front-at false (length ns) fs (f .rel) h, rows-at ns vs (f .rel) h)
+  unfolding stateOf
+  state-has b f h = placed-has flags _ ns vs b f h ∙ rw (front-at false (length ns) fs (f .rel) h)
+
+-- no flag is set at the start
+pub state-first : (b : Book) (l : List ℤ) → length (b .arities) ≤ 16 → ((r : ℕ) → r < length (b .arities) → getD (b .arities) r 0 ≤ 8) → size b flags ≤ length l
+    → stateOf (b .arities) (replicate 16 false) (firstRows (b .arities) (drop (length (b .arities)) l)) ≡ firstOf b flags l
+unfolding stateOf
+state-first b l few small long =
+    ap (λ (κ : List Bool). placed flags κ (b .arities) (firstRows (b .arities) (drop (length (b .arities)) l))) (front-replicate false (length (b .arities)) 16)
+    ∙ placed-first flags b l few small long

@@ -1,16 +1,13 @@
 -- The walked state: sixteen flags and sixteen rows of eight places, of which a book uses the first.
 use mathlib.Core.Path.{_≡_}
 use mathlib.Core.Bool.{Bool, false}
-use mathlib.Core.List.{List, [], _∷_}
+use mathlib.Core.List.{List, [], _∷_, _++_, map}
 use Prim.Native.Nat.{ℕ, zero, suc, _≤_, _<_}
-use lib.ListN.{length, getD, take}
+use lib.ListN.{length, getD, drop, set, replicate}
 use lib.IntN.{ℤ, pos}
 use Rattle.meaning.specs.Book.{Book, Fact}
-use Rattle.meaning.specs.State.{State, flags}
-use Rattle.lists.specs.Trace.{size}
-use Rattle.book.specs.declared.Header.{Header}
-use Rattle.facts.specs.declared.Place.{Place}
-use Rattle.facts.specs.Place.{Seated}
+use Rattle.meaning.specs.State.{Control, State, flags}
+use Rattle.lists.specs.Trace.{cut, size}
 
 -- the first n of a list, with d for those that are not there
 unfoldable pub front : {A : Type 0} → A → ℕ → List A → List A
@@ -24,26 +21,27 @@ rowsOf [] vs = []
 rowsOf (n ∷ ns) [] = front (pos 0) n [] ∷ rowsOf ns []
 rowsOf (n ∷ ns) (v ∷ vs) = front (pos 0) n v ∷ rowsOf ns vs
 
--- the state that flags and rows hold, over relations of the arities ns
-unfoldable pub stateOf : List ℕ → List Bool → List (List ℤ) → State flags
-stateOf ns fs vs = record { ctl = front false (length ns) fs; rows = rowsOf ns vs }
+-- the state of a control κ and the places that rows hold, over relations of the arities ns
+abbrev pub placed : (C : Control) → C .Ctl → List ℕ → List (List ℤ) → State C
+placed C κ ns vs = record { ctl = κ; rows = rowsOf ns vs }
 
--- relation r with the values that a row holds, where the book's arities stand at the front of s
-abbrev pub factOf : List ℕ → ℕ → List ℤ → Fact
-factOf s r row = record { rel = r; vals = front (pos 0) (getD s r 0) row }
+-- the state that flags and rows hold
+unfoldable pub stateOf : List ℕ → List Bool → List (List ℤ) → State flags
+stateOf ns fs vs = placed flags (front false (length ns) fs) ns vs
+
+-- values put over the front of a row
+unfoldable pub over : List ℤ → List ℤ → List ℤ
+over xs row = xs ++ drop (length xs) row
+
+-- a fact's values put over the front of its relation's row
+unfoldable pub rowPut : Fact → List (List ℤ) → List (List ℤ)
+rowPut f vs = set vs (f .rel) (over (f .vals) (getD vs (f .rel) []))
+
+-- the places at the front of a list as sixteen rows of eight, with zeros for those that are not there
+unfoldable pub firstRows : List ℕ → List ℤ → List (List ℤ)
+firstRows ns l = front (replicate 8 (pos 0)) 16 (map (front (pos 0) 8) (cut ns l))
 
 -- how many numbers a state has, with a bound for the code
-pub record Sized (b : Book) (n : ℕ) : Type 0 where
-  pub is : n ≡ size b flags
+pub record Sized (b : Book) (C : Control) (n : ℕ) : Type 0 where
+  pub is : n ≡ size b C
   pub small : n ≤ 144
-
--- the arities of n relations at the front of a book's bytes, and the arrays hold them
-pub record Shape (s : List ℕ) (n : ℕ) : Type 0 where
-  pub few : n ≤ 16
-  pub there : n ≤ length s
-  pub small : (r : ℕ) → r < n → getD s r 0 ≤ 8
-
--- a place of the list holds a fact of one of the book's relations, or none
-pub record Known (s : List ℕ) (h : Header) (m : ℕ) (a : Place) : Type 0 where
-  pub known : (a .relation ≡ 255 → ⊥) → a .relation < h .relations
-  pub seated : Seated (take (h .start) s) m a

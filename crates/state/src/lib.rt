@@ -2,20 +2,22 @@
 ghost use mathlib.Core.Path.{_≡_};
 ghost use mathlib.Core.Bool.{false};
 ghost use mathlib.Core.List.{map};
-ghost use mathlib.Core.Option.{some};
 ghost use Prim.Native.Nat.{_+_, _<_, _≤_};
-ghost use lib.ListN.{length, getD, take, drop, replicate};
+ghost use lib.ListN.{length, getD, take, drop};
 ghost use lib.IntN.{pos};
+ghost use Rattle.meaning.specs.Book.{placeWindow, head, body};
 ghost use Rattle.meaning.specs.State as state;
 ghost use Rattle.meaning.specs.State.{bit};
-ghost use Rattle.lists.specs.Compare.{eqZ, firstDiff};
+ghost use Rattle.lists.specs.Compare.{eqZ, firstDiff, firstOut};
+ghost use Rattle.lists.specs.Instance.{clauseAt, stepAt};
 ghost use Rattle.lists.specs.Derivation.{goal};
-ghost use Rattle.lists.specs.Trace.{flat, sum, size as stateSize, stateNumbers, has, meets as bodyMet, firstOf};
+ghost use Rattle.lists.specs.Trace.{flat, sum, cut, firstOutRows, size as stateSize, stateNumbers, has, meets as bodyMet};
 ghost use Rattle.book.specs.Read.{read};
 ghost use Rattle.book.specs.Meaning.{bookIn};
 ghost use Rattle.book.specs.declared.Reading.the-variants.{Good};
-ghost use Rattle.facts.specs.Place.{factIn, valuesIn, Fixed, Sits};
-ghost use Rattle.state.specs.State.{front, rowsOf, stateOf, factOf, Shape, Sized, Known};
+ghost use Rattle.table.specs.Table.{Tabled};
+ghost use Rattle.instance.specs.Values.{valuesAt, Valued};
+ghost use Rattle.state.specs.State.{front, rowsOf, stateOf, over, rowPut, firstRows, Sized};
 
 // ---- comparing with a list
 
@@ -50,7 +52,7 @@ fn row_differs(list: &[i32], at: usize, row: &[i32], n: usize) -> usize
 {
     let mut j = 0;
     while j < n {
-        if facts::value_same(list, at + j, row, j) {
+        if instance::same_at(list, at + j, row, j) {
             j += 1;
         } else {
             return at + j;
@@ -59,57 +61,67 @@ fn row_differs(list: &[i32], at: usize, row: &[i32], n: usize) -> usize
     at + j
 }
 
-// ---- rows
-
-// the n numbers from `at` on as a row
-fn row_at(list: &[i32], at: usize, n: usize) -> [i32; 8]
-    requires { ⌜ (n ≤ 8) × (at + n ≤ length (now list)) ⌝ }
-    ensures { λ r. ⌜ front (pos 0) n r ≡ take n (drop at (now (list .entry))) ⌝ }
+// the first of the places of relation r, n from `at` on, that lies outside its window, or the place after them
+fn row_out(book: &[u8], h: book::Header, r: usize, list: &[i32], at: usize, n: usize) -> usize
+    requires { ⌜ at + n ≤ length (now list) ⌝ }
+    ensures { λ o. ⌜ o ≡ firstOut (placeWindow (bookIn (now (book .entry)) h) r) at (take n (drop at (now (list .entry)))) ⌝ }
 {
-    let mut row = [0i32; 8];
+    let mut j = 0;
+    while j < n {
+        if instance::inside_at(list, at + j, book::place_window(book, h, r, j)) {
+            j += 1;
+        } else {
+            return at + j;
+        }
+    }
+    at + j
+}
+
+// ---- rows, written in place
+
+// the n numbers from `at` on put over the front of a row
+fn load(list: &[i32], at: usize, n: usize, row: &mut [i32])
+    requires { ⌜ (n ≤ length (now row)) × (at + n ≤ length (now list)) ⌝ }
+    ensures { λ r. ⌜ now (row .exit) ≡ over (take n (drop at (now (list .entry)))) (now (row .entry)) ⌝ }
+{
     let mut j = 0;
     while j < n {
         row[j] = list[at + j];
         j += 1;
     }
-    row
 }
 
-// the value of the argument at p
-fn argument(s: &[u8], list: &[i32], p: usize, a: facts::Place) -> i32
-    requires { ⌜ Sits (now s) (length (now list)) p a ⌝ }
-    ensures { λ r. ⌜ r ≡ getD (now (list .entry)) (a .from + getD (now (s .entry)) p 0) (pos 0) ⌝ }
+// the values of n arguments put over the front of a row
+fn fill(book: &[u8], list: &[i32], p: usize, from: usize, n: usize, row: &mut [i32])
+    requires { ⌜ (n ≤ length (now row)) × (Valued (now book) (length (now list)) p from n) ⌝ }
+    ensures { λ r. ⌜ now (row .exit) ≡ over (valuesAt (now (book .entry)) (now (list .entry)) p from n) (now (row .entry)) ⌝ }
 {
-    let i = a.from + whole::wide(s[p]);
-    list[i]
-}
-
-// the values of n arguments as a row
-fn values_row(s: &[u8], list: &[i32], a: facts::Place, n: usize) -> [i32; 8]
-    requires { ⌜ n ≤ 8 ⌝ }
-    requires { ⌜ Fixed (now s) (length (now list)) n a ⌝ }
-    ensures { λ r. ⌜ front (pos 0) n r ≡ valuesIn (now (s .entry)) (now (list .entry)) a (a .seat + 1) n ⌝ }
-{
-    let p = a.seat + 1;
-    let mut row = [0i32; 8];
     let mut j = 0;
     while j < n {
-        row[j] = argument(s, list, p + j, a);
+        let i = instance::spot(book, p + j, from);
+        row[j] = list[i];
         j += 1;
     }
-    row
 }
 
-// The fact at a place of the list: its values as a row.
-pub fn row_of(book: &[u8], h: book::Header, list: &[i32], a: facts::Place) -> [i32; 8]
-    requires { ⌜ read (now book) ≡ Good h ⌝ }
-    requires { ⌜ Known (now book) h (length (now list)) a ⌝ }
-    requires { ⌜ (a .relation ≡ 255 → ⊥) ⌝ }
-    ensures { λ r. ⌜ factIn (take (h .start) (now (book .entry))) (now (list .entry)) a ≡ some (factOf (now (book .entry)) (a .relation) r) ⌝ }
+// The head of a step by clause k, its values from `from` on in the list, put into its row.
+pub fn put(
+    book: &[u8],
+    h: book::Header,
+    table: &[[u16; 8]; 64],
+    k: usize,
+    list: &[i32],
+    from: usize,
+    rows: &mut [[i32; 8]; 16],
+)
+    requires { ⌜ Tabled (now book) h (now table) ⌝ }
+    requires { ⌜ (k < h .count) × (from + clauseAt (bookIn (now book) h) k .vars ≤ length (now list)) ⌝ }
+    ensures { λ r. ⌜ now (rows .exit) ≡ rowPut (head (bookIn (now (book .entry)) h) (stepAt (bookIn (now (book .entry)) h) k (drop from (now (list .entry))))) (now (rows .entry)) ⌝ }
 {
-    let r = whole::wide(a.relation);
-    let start = h.start;
-    values_row(&book[..start], list, a, whole::wide(book[r]))
+    let r = table::cell(table, k, table::HEAD);
+    let p = table::cell(table, k, table::HEAD_AT);
+    let n = table::cell(table, k, table::HEAD_MANY);
+    fill(book, list, p, from, n, &mut rows[r]);
 }
 
 // ---- states
@@ -117,47 +129,75 @@ pub fn row_of(book: &[u8], h: book::Header, list: &[i32], a: facts::Place) -> [i
 // How many numbers a state has: a flag for each relation, then all places.
 pub fn size(book: &[u8], h: book::Header) -> usize
     requires { ⌜ read (now book) ≡ Good h ⌝ }
-    ensures { λ r. ⌜ Sized (bookIn (now (book .entry)) h) r ⌝ }
+    ensures { λ r. ⌜ Sized (bookIn (now (book .entry)) h) state.flags r ⌝ }
 {
     let n = whole::wide(h.relations);
     let mut total = n;
     let mut r = 0;
     while r < n {
-        total += whole::wide(book[r]);
+        total += book::arity_of(book, h, r);
         r += 1;
     }
     total
 }
 
-// The places of the first state that a list begins with: with no flag set, that state.
-pub fn first_places(book: &[u8], h: book::Header, list: &[i32]) -> [[i32; 8]; 16]
+// The places of a state that stand from `at` on, as rows.
+pub fn first_places(book: &[u8], h: book::Header, list: &[i32], at: usize) -> [[i32; 8]; 16]
     requires { ⌜ read (now book) ≡ Good h ⌝ }
-    requires { ⌜ stateSize (bookIn (now book) h) state.flags ≤ length (now list) ⌝ }
-    ensures { λ r. ⌜ stateOf (bookIn (now (book .entry)) h .arities) (replicate 16 false) r ≡ firstOf (bookIn (now (book .entry)) h) state.flags (now (list .entry)) ⌝ }
+    requires { ⌜ at + sum (bookIn (now book) h .arities) ≤ length (now list) ⌝ }
+    ensures { λ r. ⌜ r ≡ firstRows (bookIn (now (book .entry)) h .arities) (drop at (now (list .entry))) ⌝ }
 {
     let n = whole::wide(h.relations);
     let mut rows = [[0i32; 8]; 16];
-    let mut at = n;
+    let mut p = at;
     let mut r = 0;
     while r < n {
-        let many = whole::wide(book[r]);
-        rows[r] = row_at(list, at, many);
-        at += many;
+        let many = book::arity_of(book, h, r);
+        load(list, p, many, &mut rows[r]);
+        p += many;
         r += 1;
     }
     rows
 }
 
-// the first number from `at` on that is not the place's, or the place after them; the arities of n relations stand at the front of the book
-fn places_differ(book: &[u8], n: usize, rows: &[[i32; 8]; 16], list: &[i32], at: usize) -> usize
-    requires { ⌜ Shape (now book) n ⌝ }
-    requires { ⌜ at + sum (take n (now book)) ≤ length (now list) ⌝ }
-    ensures { λ r. ⌜ r ≡ firstDiff at (drop at (now (list .entry))) (flat (rowsOf (take n (now (book .entry))) (now (rows .entry)))) ⌝ }
+// The first of a state's places, which stand from `at` on, that lies outside its window, or the place after them.
+pub fn places_out(book: &[u8], h: book::Header, list: &[i32], at: usize) -> usize
+    requires { ⌜ read (now book) ≡ Good h ⌝ }
+    requires { ⌜ at + sum (bookIn (now book) h .arities) ≤ length (now list) ⌝ }
+    ensures { λ o. ⌜ o ≡ firstOutRows (placeWindow (bookIn (now (book .entry)) h)) at (cut (bookIn (now (book .entry)) h .arities) (drop at (now (list .entry)))) ⌝ }
 {
+    let n = whole::wide(h.relations);
     let mut p = at;
     let mut r = 0;
     while r < n {
-        let many = whole::wide(book[r]);
+        let many = book::arity_of(book, h, r);
+        let o = row_out(book, h, r, list, p, many);
+        if o < p + many {
+            return o;
+        }
+        p += many;
+        r += 1;
+    }
+    p
+}
+
+// the first number from `at` on that is not the place's, or the place after them
+fn places_differ(
+    book: &[u8],
+    h: book::Header,
+    rows: &[[i32; 8]; 16],
+    list: &[i32],
+    at: usize,
+) -> usize
+    requires { ⌜ read (now book) ≡ Good h ⌝ }
+    requires { ⌜ at + sum (bookIn (now book) h .arities) ≤ length (now list) ⌝ }
+    ensures { λ r. ⌜ r ≡ firstDiff at (drop at (now (list .entry))) (flat (rowsOf (bookIn (now (book .entry)) h .arities) (now (rows .entry)))) ⌝ }
+{
+    let n = whole::wide(h.relations);
+    let mut p = at;
+    let mut r = 0;
+    while r < n {
+        let many = book::arity_of(book, h, r);
         let d = row_differs(list, p, &rows[r], many);
         if d < p + many {
             return d;
@@ -186,7 +226,7 @@ pub fn differs(
     if d < at + n {
         return d;
     }
-    places_differ(book, n, rows, list, at + n)
+    places_differ(book, h, rows, list, at + n)
 }
 
 // Whether a state holds a fact: a relation with its values.
@@ -199,7 +239,7 @@ pub fn holds(
     values: &[i32],
 ) -> bool
     requires { ⌜ read (now book) ≡ Good h ⌝ }
-    requires { ⌜ (relation < h .relations) × (length (now values) ≡ getD (now book) relation 0) ⌝ }
+    requires { ⌜ (relation < h .relations) × (length (now values) ≡ getD (bookIn (now book) h .arities) relation 0) ⌝ }
     ensures { λ r. ⌜ r ≡ has (bookIn (now (book .entry)) h) state.flags (goal relation (now (values .entry))) (stateOf (bookIn (now (book .entry)) h .arities) (now (flags .entry)) (now (rows .entry))) ⌝ }
 {
     if flags[relation] {
@@ -209,24 +249,30 @@ pub fn holds(
     }
 }
 
-// Whether a state meets a body: the fact at a place of the list, or none.
+// Whether a state meets the body of a step by clause k, whose values stand from `from` on in the list.
 pub fn meets(
     book: &[u8],
     h: book::Header,
+    table: &[[u16; 8]; 64],
+    k: usize,
     flags: &[bool; 16],
     rows: &[[i32; 8]; 16],
     list: &[i32],
-    a: facts::Place,
+    from: usize,
 ) -> bool
-    requires { ⌜ read (now book) ≡ Good h ⌝ }
-    requires { ⌜ Known (now book) h (length (now list)) a ⌝ }
-    ensures { λ r. ⌜ r ≡ bodyMet (bookIn (now (book .entry)) h) state.flags (factIn (take (h .start) (now (book .entry))) (now (list .entry)) a) (stateOf (bookIn (now (book .entry)) h .arities) (now (flags .entry)) (now (rows .entry))) ⌝ }
+    requires { ⌜ Tabled (now book) h (now table) ⌝ }
+    requires { ⌜ (k < h .count) × (from + clauseAt (bookIn (now book) h) k .vars ≤ length (now list)) ⌝ }
+    ensures { λ r. ⌜ r ≡ bodyMet (bookIn (now (book .entry)) h) state.flags (body (bookIn (now (book .entry)) h) (stepAt (bookIn (now (book .entry)) h) k (drop from (now (list .entry))))) (stateOf (bookIn (now (book .entry)) h .arities) (now (flags .entry)) (now (rows .entry))) ⌝ }
 {
-    if a.relation == 255 {
+    let r = table::cell(table, k, table::BODY);
+    if r == 255 {
         return true;
     }
-    let r = whole::wide(a.relation);
-    let n = whole::wide(book[r]);
-    let row = row_of(book, h, list, a);
-    holds(book, h, flags, rows, r, &row[..n])
+    if flags[r] {
+        let p = table::cell(table, k, table::BODY_AT);
+        let n = table::cell(table, k, table::BODY_MANY);
+        instance::values_are(book, list, p, from, n, &rows[r])
+    } else {
+        false
+    }
 }

@@ -2,7 +2,7 @@ use borrow.Author.Needs.{needs}
 use native.Mathlib.Omega.{arith}
 use mathlib.Core.Path.{refl}
 use Rattle.state.specs.Laws.{bits-length}
-use Rattle.state.proofs.Shape.{shape-read, size-is}
+use Rattle.state.proofs.Shape.{relations-few, size-is}
 use Rattle.state.proofs.Difference.{parts-stop, parts-on}
 use Rattle.state.proofs.Laws.{numbers-are}
 use Rattle.state.proofs.differs.Statement.{statement}
@@ -12,7 +12,7 @@ flags-differ-requires : tie.Need-flags-differ-requires
 flags-differ-requires c κs =
     let a = c .before .before .args in
     let p = c .before .before .pre in
-    (omega (arith, shape-read (a .book .now) (a .h) (p .0) .few), omega (arith, size-is (a .book .now) (a .h) (p .0)))
+    (omega (arith, relations-few (a .book .now) (a .h) (p .0)), omega (arith, size-is (a .book .now) (a .h) (p .0)))
 
 returns : tie.Need-returns
 returns c =
@@ -27,8 +27,7 @@ places-differ-requires : tie.Need-places-differ-requires
 places-differ-requires c κs =
     let a = c .before .before .before .before .args in
     let p = c .before .before .before .before .pre in
-    let n = c .before .before .wide .ensures .0 in
-    (rw n (shape-read (a .book .now) (a .h) (p .0)), rw n (omega (arith, size-is (a .book .now) (a .h) (p .0))))
+    (p .0, omega (arith, c .before .before .wide .ensures .0, size-is (a .book .now) (a .h) (p .0)))
 
 returns-2 : tie.Need-returns-2
 returns-2 c =

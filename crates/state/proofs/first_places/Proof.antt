@@ -1,74 +1,91 @@
 use borrow.Author.Needs.{needs}
 use native.Mathlib.Omega.{arith}
-use mathlib.Core.Path.{_≡_, refl, _∙_}
-use mathlib.Core.List.{_++_}
-use Prim.Native.Nat.{_+_, _-_, _≤_}
-use lib.ListN.{length, take, drop, length-set}
+use mathlib.Core.Path.{_≡_, refl, sym, ap, _∙_}
+use mathlib.Core.List.{[]}
+use Prim.Native.Nat.{_+_, _-_, _≤_, _<_}
+use lib.ListN.{length, getD, take, drop, length-drop}
+use lib.Seq.{length-take-le}
 use Rattle.lists.specs.Trace.{sum, cut}
-use Rattle.state.specs.State.{Shape, rowsOf}
-use Rattle.state.proofs.Shape.{shape-read, size-is, sum-more}
-use Rattle.state.proofs.Laws.{load-more, load-done}
+use Rattle.book.specs.Meaning.{bookIn}
+use Rattle.book.specs.Arities.{relations-are}
+use Rattle.state.proofs.Shape.{relations-few, arities-few, sum-more}
+use Rattle.state.proofs.Rows.{loaded, loaded-none, loaded-all, loaded-more, load-row}
 use Rattle.state.proofs.first_places.Statement.{statement}
 use Rattle.state.proofs.first_places.Tie as tie
 
 abbrev Inv-loop : tie.InvT-loop
-Inv-loop book list n rows₀ at₀ r₀ rows at r =
-    Shape book n × (length rows ≡ 16) × (r ≤ n) × (at + sum (drop r (take n book)) ≤ length list)
-    × (rowsOf (take r (take n book)) rows ++ cut (drop r (take n book)) (drop at list) ≡ cut (take n book) (drop n list))
+Inv-loop book h list at n rows₀ p₀ r₀ rows p r =
+    (r ≤ n) × (p + sum (drop r (bookIn book h .arities)) ≡ at + sum (bookIn book h .arities)) × (rows ≡ loaded (bookIn book h .arities) (drop at list) r)
 
 abbrev μ-loop : tie.MeasureT-loop
-μ-loop book list n rows₀ at₀ r₀ rows at r = n - r
+μ-loop book h list at n rows₀ p₀ r₀ rows p r = n - r
 
 loop-holds : tie.Need-loop-holds Inv-loop μ-loop
-unfolding rowsOf
-loop-holds c =
-    let a = c .before .before .args in
-    let p = c .before .before .pre in (
-      rw (c .wide .ensures .0) (shape-read (a .book .now) (a .h) (p .0)),
-      refl,
-      omega arith,
-      rw (c .wide .ensures .0) (omega (arith, size-is (a .book .now) (a .h) (p .0))),
-      refl,
-    )
+loop-holds c = let a = c .before .before .args in (omega arith, refl, loaded-none (bookIn (a .book .now) (a .h) .arities) (drop (a .at) (a .list .now)))
 
-shared-slice-read-wide : tie.Need-shared-slice-read-wide Inv-loop μ-loop
-shared-slice-read-wide c = omega (arith, c .before .before .loop .inv .0 .there)
+arity-of-requires : tie.Need-arity-of-requires Inv-loop μ-loop
+arity-of-requires c κs = (c .before .before .before .before .pre .0, omega (arith, c .before .before .wide .ensures .0))
 
-row-at-requires : tie.Need-row-at-requires Inv-loop μ-loop
-row-at-requires c κs =
-    let s = c .before .before .before .before .before .before .args .book .now in
-    let t = c .before .before .before .loop in
-    let k = c .before .before .loop-test .taken in
-    (omega (arith, t .inv .0 .small (t .r) k, c .wide2 .ensures .0), omega (arith, sum-more s _ (t .r) k (t .inv .0 .there), c .wide2 .ensures .0))
+-- the relation that the loop is at, and what its places and the later ones take
+module _ (c : tie.In-loop Inv-loop μ-loop) where
+  abbrev x : tie.Start Inv-loop μ-loop
+  x = c .before .before .before .before
 
-array-set-from-rows : tie.Need-array-set-from-rows Inv-loop μ-loop
-array-set-from-rows c = let t = c .before .before .before .before .loop in omega (arith, t .inv .0 .few)
+  abbrev t : tie.At-loop Inv-loop μ-loop
+  t = c .before
 
-add-at : tie.Need-add-at Inv-loop μ-loop
-add-at c =
-    let s = c .before .before .before .before .before .before .before .args .book .now in
-    let t = c .before .before .before .before .loop in
-    let k = c .before .before .before .loop-test .taken in
-    record { fits = omega (arith, sum-more s _ (t .r) k (t .inv .0 .there), c .before .wide2 .ensures .0) }
+  below : t .loop .r < length (bookIn (x .args .book .now) (x .args .h) .arities)
+  below = omega (arith, relations-are (x .args .book .now) (x .args .h) (x .pre .0), c .before .before .wide .ensures .0)
+
+  few : t .loop .r < 16
+  few = omega (arith, relations-few (x .args .book .now) (x .args .h) (x .pre .0), c .before .before .wide .ensures .0)
+
+  places : sum (drop (t .loop .r) (bookIn (x .args .book .now) (x .args .h) .arities))
+      ≡ getD (bookIn (x .args .book .now) (x .args .h) .arities) (t .loop .r) 0 + sum (drop (t .loop .r + 1) (bookIn (x .args .book .now) (x .args .h) .arities))
+  places = sum-more (bookIn (x .args .book .now) (x .args .h) .arities) (t .loop .r) below
+
+mul-load : tie.Need-mul-load Inv-loop μ-loop
+mul-load c = let k = few (c .before) in search needs
+
+index-1-load : tie.Need-index-1-load Inv-loop μ-loop
+index-1-load c = few (c .before)
+
+load-requires : tie.Need-load-requires Inv-loop μ-loop
+load-requires c κs =
+    let i = c .before .before in
+    let m = c .before .arity-of .ensures in
+    (omega (arith, m .1), omega (arith, places i, m .0, x i .pre .1))
+
+add-p : tie.Need-add-p Inv-loop μ-loop
+add-p c =
+    let i = c .before .before .before in
+    record { fits = omega (arith, places i, c .before .before .arity-of .ensures .0, x i .pre .1) }
 
 loop-again : tie.Need-loop-again Inv-loop μ-loop
 loop-again c =
-    let a = c .before .before .before .before .before .before .before .args in
+    let i = c .before .before .before in
+    let a = x i .args in
+    let ns = bookIn (a .book .now) (a .h) .arities in
+    let l = drop (a .at) (a .list .now) in
     let t = c .before .before .before .before .loop in
-    let k = c .before .before .before .loop-test .taken in
-    let m = c .before .wide2 in (
-      t .inv .0,
-      rw length-set (t .inv .1),
+    let m = c .before .before .arity-of in
+    let fits : t .p + m .result ≤ length (a .list .now) = omega (arith, places i, m .ensures .0, x i .pre .1) in
+    let v = take (m .result) (drop (t .p) (a .list .now)) in
+    let long : length v ≡ m .result = length-take-le (m .result) (drop (t .p) (a .list .now)) (rw length-drop (omega arith)) in
+    let is : v ≡ getD (cut ns l) (t .r) [] = rw (m .ensures .0) (load-row ns l (a .list .now) (a .at) (t .p) (t .r) refl (t .inv .1) (below i)) in (
       omega arith,
-      omega (arith, sum-more (a .book .now) _ (t .r) k (t .inv .0 .there), m .ensures .0),
-      load-more (a .book .now) _ (t .r) (t .rows) (c .row-at .result) (a .list .now) (t .at) (m .result) (t .inv .0) (t .inv .1) k (m .ensures .0) (c .row-at .ensures) ∙ t .inv .4,
+      omega (arith, places i, m .ensures .0),
+      rw (c .load .ensures, t .inv .2) (loaded-more ns l (t .r) (below i) (arities-few (a .book .now) (a .h) (x i .pre .0)) v is (omega (arith, m .ensures .1))),
     )
 
 returns : tie.Need-returns Inv-loop μ-loop
 returns c =
-    let a = c .before .before .before .before .args in
+    let x = c .before .before .before .before in
+    let a = x .args in
     let t = c .before .loop in
-    load-done (a .book .now) (a .h) (t .rows) (a .list .now) (t .r) (t .at) _ (c .before .before .before .before .pre .0) (c .before .before .wide .ensures .0) (c .loop-test .left) (t .inv .4)
+    t .inv .2
+    ∙ loaded-all (bookIn (a .book .now) (a .h) .arities) (drop (a .at) (a .list .now)) (t .r)
+    (omega (arith, relations-are (a .book .now) (a .h) (x .pre .0), c .before .before .wide .ensures .0))
 
 pub first-places-spec : {M : Type 1} → statement M
 first-places-spec =
@@ -78,12 +95,11 @@ first-places-spec =
     μ-loop
     (λ c κs. search needs)
     loop-holds
-    shared-slice-read-wide
-    (λ c κs. search needs)
-    row-at-requires
-    (λ c. search needs)
-    array-set-from-rows
-    add-at
+    arity-of-requires
+    mul-load
+    index-1-load
+    load-requires
+    add-p
     (λ c. search needs)
     (λ c. search needs)
     loop-again

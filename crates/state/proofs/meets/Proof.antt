@@ -1,69 +1,85 @@
 use borrow.Author.Needs.{needs}
 use native.Mathlib.Omega.{arith}
-use mathlib.Core.Path.{sym, _∙_}
-use lib.Seq.{length-take-le}
-use Rattle.state.proofs.Shape.{shape-read}
-use Rattle.state.proofs.Laws.{row-small, meets-none, meets-row}
+use Prim.Native.Nat.{_<_}
+use Rattle.state.proofs.Laws.{meets-none, meets-off, meets-row, body-few, body-small, body-valued}
 use Rattle.state.proofs.meets.Statement.{statement}
 use Rattle.state.proofs.meets.Tie as tie
 
+cell-requires : tie.Need-cell-requires
+cell-requires c κs = let p = c .before .pre in (omega (arith, p .0 .few, p .1 .0), omega arith)
+
 returns : tie.Need-returns
-returns c = let a = c .before .before .before .args in meets-none (a .book .now) (a .h) _ (a .list .now) (a .a) _ (c .if1 .taken)
+returns c =
+    let x = c .before .before .before in
+    let a = x .args in
+    meets-none (x .pre .0) (x .pre .1 .0) (a .list .now) (a .from) (a .flags .now) (a .rows .now) (c .before .cell .ensures .0) (c .if1 .taken)
 
-shared-slice-read-wide : tie.Need-shared-slice-read-wide
-shared-slice-read-wide c =
-    let a = c .before .before .before .before .before .args in
-    let p = c .before .before .before .before .before .pre in
-    omega (arith, shape-read (a .book .now) (a .h) (p .0) .there, p .1 .known (c .before .before .if1 .left), c .before .wide .ensures .0)
+element-copy-out-if2 : tie.Need-element-copy-out-if2
+element-copy-out-if2 c =
+    let x = c .before .before .before in
+    let a = x .args in
+    body-few (x .pre .0) (x .pre .1 .0) (a .list .now) (a .from) (a .flags .now) (a .rows .now) (c .before .cell .ensures .0) (c .if1 .left)
 
-row-of-requires : tie.Need-row-of-requires
-row-of-requires c κs =
-    let p = c .before .before .before .before .before .before .pre in
-    (p .0, (p .1, c .before .before .before .if1 .left))
+cell-requires-2 : tie.Need-cell-requires-2
+cell-requires-2 c κs = let p = c .before .before .before .before .before .pre in (omega (arith, p .0 .few, p .1 .0), omega arith)
 
-array-share-prefix-row : tie.Need-array-share-prefix-row
-array-share-prefix-row c =
-    let a = c .before .before .before .before .before .before .before .args in
-    let p = c .before .before .before .before .before .before .before .pre in
-    omega (arith, row-small (a .book .now) (a .h) (a .a) _ (p .0) (p .1) (c .before .before .before .before .if1 .left) (c .before .before .before .wide .ensures .0) (c .before .wide2 .ensures .0))
+cell-requires-3 : tie.Need-cell-requires-3
+cell-requires-3 c κs = let p = c .before .before .before .before .before .before .pre in (omega (arith, p .0 .few, p .1 .0), omega arith)
 
-slice-aggregate-holds : tie.Need-slice-aggregate-holds
-slice-aggregate-holds c =
-    let a = c .before .before .before .before .before .before .before .before .args in
-    let p = c .before .before .before .before .before .before .before .before .pre in
-    let k = row-small (a .book .now) (a .h) (a .a) _ (p .0) (p .1) (c .before .before .before .before .before .if1 .left) (c .before .before .before .before .wide .ensures .0) (c .before .before .wide2 .ensures .0) in
-    sym (length-take-le _ _ (omega arith))
+-- the relation of the body, at the call
+few : (c : tie.After-cell3) → c .before .before .before .before .before .cell .result < 16
+few c =
+    let x = c .before .before .before .before .before .before .before in
+    let a = x .args in
+    body-few (x .pre .0) (x .pre .1 .0) (a .list .now) (a .from) (a .flags .now) (a .rows .now) (c .before .before .before .before .before .cell .ensures .0) (c .before .before .before .before .if1 .left)
 
-holds-requires : tie.Need-holds-requires
-holds-requires c κs =
-    let a = c .before .before .before .before .before .before .before .before .args in
-    let p = c .before .before .before .before .before .before .before .before .pre in
-    let other = c .before .before .before .before .before .if1 .left in
-    let r = c .before .before .before .before .wide .ensures .0 in
-    let n = c .before .before .wide2 .ensures .0 in
-    let k = row-small (a .book .now) (a .h) (a .a) _ (p .0) (p .1) other r n in
-    (p .0, (omega (arith, p .1 .known other), length-take-le _ _ (omega arith) ∙ n))
+mul-values-are : tie.Need-mul-values-are
+mul-values-are c = let k = few c in search needs
+
+index-1-values-are : tie.Need-index-1-values-are
+index-1-values-are c = few c
+
+values-are-requires : tie.Need-values-are-requires
+values-are-requires c κs =
+    let x = c .before .before .before .before .before .before .before .before .before in
+    let a = x .args in
+    let q = c .before .before .before .before .before .before .before .cell .ensures .0 in
+    let n = c .before .before .before .before .before .before .if1 .left in
+    let u = c .before .before .before .cell2 .ensures .0 in
+    let v = c .before .before .cell3 .ensures .0 in (
+      body-valued (x .pre .0) (x .pre .1 .0) (a .list .now) (a .from) (a .flags .now) (a .rows .now) q n u v (x .pre .1 .1),
+      omega (arith, body-small (x .pre .0) (x .pre .1 .0) (a .list .now) (a .from) (a .flags .now) (a .rows .now) q n u v),
+    )
 
 returns-2 : tie.Need-returns-2
 returns-2 c =
-    let a = c .before .before .before .before .before .before .before .before .before .args in
-    let p = c .before .before .before .before .before .before .before .before .before .pre in
-    let r = c .before .before .before .before .before .wide .ensures .0 in
-    let n = c .before .before .before .wide2 .ensures .0 in
-    let k = row-small (a .book .now) (a .h) (a .a) _ (p .0) (p .1) (c .before .before .before .before .before .before .if1 .left) r n in
-    let row = c .before .before .row-of in
-    meets-row (a .book .now) (a .h) _ (a .list .now) (a .a) _ (row .result) _ _ (row .ensures) r n (omega arith) (c .holds .ensures)
+    let x = c .before .before .before .before .before .before .before .before .before .before in
+    let a = x .args in
+    let q = c .before .before .before .before .before .before .before .before .cell .ensures .0 in
+    let n = c .before .before .before .before .before .before .before .if1 .left in
+    let u = c .before .before .before .before .cell2 .ensures .0 in
+    let v = c .before .before .before .cell3 .ensures .0 in
+    meets-row (x .pre .0) (x .pre .1 .0) (a .list .now) (a .from) (a .flags .now) (a .rows .now) q n u v
+    (omega (arith, body-small (x .pre .0) (x .pre .1 .0) (a .list .now) (a .from) (a .flags .now) (a .rows .now) q n u v))
+    (c .before .before .before .before .before .if2 .taken) (c .values-are .ensures)
+
+returns-3 : tie.Need-returns-3
+returns-3 c =
+    let x = c .before .before .before .before .before in
+    let a = x .args in
+    meets-off (x .pre .0) (x .pre .1 .0) (a .list .now) (a .from) (a .flags .now) (a .rows .now) (c .before .before .before .cell .ensures .0) (c .before .before .if1 .left) (c .if2 .left)
 
 pub meets-spec : {M : Type 1} → statement M
 meets-spec =
     tie.close
     (tie.spec
+    cell-requires
     returns
-    (λ c κs. search needs)
-    shared-slice-read-wide
-    (λ c κs. search needs)
-    row-of-requires
-    array-share-prefix-row
-    slice-aggregate-holds
-    holds-requires
-    returns-2)
+    element-copy-out-if2
+    cell-requires-2
+    cell-requires-3
+    mul-values-are
+    index-1-values-are
+    values-are-requires
+    returns-2
+    returns-3)

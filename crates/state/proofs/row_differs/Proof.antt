@@ -27,14 +27,14 @@ loop-again c =
     let a = c .before .before .before .before .args in
     let t = c .before .before .before .loop in
     let n = front-length (pos 0) (a .n) (a .row .now) in
-    (omega arith, via (t .inv .1) (diff-later (a .list .now) (a .at) _ (t .j) (omega arith) (omega arith) (c .before .value-same .ensures) (sym (front-at (pos 0) (a .n) (a .row .now) (t .j) (omega arith))) (c .if1 .taken) refl))
+    (omega arith, via (t .inv .1) (diff-later (a .list .now) (a .at) _ (t .j) (omega arith) (omega arith) (c .before .same-at .ensures) (sym (front-at (pos 0) (a .n) (a .row .now) (t .j) (omega arith))) (c .if1 .taken) refl))
 
 returns : tie.Need-returns Inv-loop μ-loop
 returns c =
     let a = c .before .before .before .before .args in
     let t = c .before .before .before .loop in
     let n = front-length (pos 0) (a .n) (a .row .now) in
-    via (t .inv .1) (diff-here (a .list .now) (a .at) _ (t .j) (omega arith) (omega arith) (c .before .value-same .ensures) (sym (front-at (pos 0) (a .n) (a .row .now) (t .j) (omega arith))) (c .if1 .left) refl)
+    via (t .inv .1) (diff-here (a .list .now) (a .at) _ (t .j) (omega arith) (omega arith) (c .before .same-at .ensures) (sym (front-at (pos 0) (a .n) (a .row .now) (t .j) (omega arith))) (c .if1 .left) refl)
 
 returns-2 : tie.Need-returns-2 Inv-loop μ-loop
 returns-2 c =
