@@ -14,10 +14,11 @@ use lib.IntN.{ℤ, pos, negsuc}
 use borrow.Author.Tests.{ltb-true, leb-true, lt-ltb, le-ltb, le-leb, lt-leb}
 use Rattle.meaning.specs.Constraint.{holds}
 use Rattle.meaning.specs.Book.{Book, Clause, Window, variableWindow}
-use Rattle.lists.specs.Answer.{Answer, ok, number, need, andThen}
+use Rattle.reply.specs.Answer.{Answer, done, refused, ok, number, need, andThen}
 use Rattle.lists.specs.Compare.{eqZ, eqVals, inside, allIn, firstOut}
 use Rattle.lists.specs.Instance.{clauseNumber, clauseAt, judgeClause, judge, judgeEnabled}
 use Rattle.lists.specs.Enabled.{outside}
+use Rattle.lists.specs.Laws.{judge-exact}
 use Rattle.book.specs.declared.Header.{Header}
 use Rattle.book.specs.declared.Window as codes
 use Rattle.book.specs.Windows.{Windowed}
@@ -283,3 +284,43 @@ module _ {s : List ℕ} {h : Header} {t : List (List ℕ)} (w : Tabled s h t) (l
   pub whole-out : {v out : ℕ} → v ≡ getD (getD t k []) 0 0 → out ≡ firstOut (variableWindow (bookIn s h) (clauseAt (bookIn s h) k)) (i + 1) (take v (drop (i + 1) l))
       → out ≡ outside (bookIn s h) (numberIn s h l i) (drop (i + 1) l) i
   whole-out e f = f ∙ rw (same, w .row k whole-below .vars, ← e)
+
+-- ---- a step that may be taken where its body is met, by the number of its instance's refusal
+
+judge-tests : (i q : ℕ) (t₁ t₂ t₃ t₄ : Bool) → let x = need t₁ 12 i (need t₂ 13 i (need t₃ 14 q (need t₄ 15 i ok))) in number x ≡ 0 → x ≡ ok
+unfolding need
+judge-tests i q true true true true e = refl
+judge-tests i q true true true false e = absurd (let z : ⊥ = omega arith in z)
+judge-tests i q true true false t₄ e = absurd (let z : ⊥ = omega arith in z)
+judge-tests i q true false t₃ t₄ e = absurd (let z : ⊥ = omega arith in z)
+judge-tests i q false t₂ t₃ t₄ e = absurd (let z : ⊥ = omega arith in z)
+
+number-stop : (x y : Answer) → (number x ≡ 0 → ⊥) → number (andThen x y) ≡ number x
+unfolding andThen
+number-stop (done m) y n = absurd (n refl)
+number-stop (refused m i) y n = refl
+
+module _ (s : List ℕ) (h : Header) (good : read s ≡ Good h) (l : List ℤ) (i more : ℕ) {n : ℕ} (e : n ≡ number (judge (bookIn s h) (numberIn s h l i) more (drop (i + 1) l) i)) where
+  -- it is refused
+  pub enabled-stop : (met : Bool) → (n ≡ 0 → ⊥) → n ≡ number (judgeEnabled (bookIn s h) (numberIn s h l i) more (drop (i + 1) l) i met)
+  unfolding judgeEnabled
+  enabled-stop met z = e ∙ sym (number-stop _ _ (λ q. z (e ∙ q)))
+
+  module _ (z : n ≡ 0) where
+    instance-ok : judge (bookIn s h) (numberIn s h l i) more (drop (i + 1) l) i ≡ ok
+    unfolding judge judgeClause
+    instance-ok = judge-tests i _ _ _ _ _ (sym e ∙ z)
+
+    -- it stands there in full, with what follows it
+    pub instance-room : i < length l → (numberIn s h l i < h .count) × (i + 1 + clauseAt (bookIn s h) (numberIn s h l i) .vars + more ≤ length l)
+    instance-room there =
+        let (one, room) = judge-exact (bookIn s h) (numberIn s h l i) more (drop (i + 1) l) i .0 instance-ok in
+        (omega (arith, one .there, count-is s h good), omega (arith, room, length-drop (i + 1) l))
+
+    pub enabled-met : (met : Bool) {r : Bool} → r ≡ met → r ≡ true → 0 ≡ number (judgeEnabled (bookIn s h) (numberIn s h l i) more (drop (i + 1) l) i met)
+    unfolding judgeEnabled andThen need
+    enabled-met met q t = rw (instance-ok, sym q ∙ t)
+
+    pub enabled-unmet : (met : Bool) {r : Bool} → r ≡ met → r ≡ false → 16 ≡ number (judgeEnabled (bookIn s h) (numberIn s h l i) more (drop (i + 1) l) i met)
+    unfolding judgeEnabled andThen need
+    enabled-unmet met q t = rw (instance-ok, sym q ∙ t)

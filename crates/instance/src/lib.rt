@@ -5,7 +5,7 @@ ghost use Prim.Native.Nat.{_+_, _<_, _≤_};
 ghost use lib.ListN.{length, getD, take, drop};
 ghost use lib.IntN.{pos};
 ghost use Rattle.meaning.specs.Book.{variableWindow};
-ghost use Rattle.lists.specs.Answer.{number};
+ghost use Rattle.reply.specs.Answer.{number};
 ghost use Rattle.lists.specs.Compare.{eqZ, eqVals, inside, firstOut};
 ghost use Rattle.lists.specs.Instance.{clauseNumber, clauseAt, judgeClause, judge};
 ghost use Rattle.lists.specs.Enabled.{refusalPlace};

@@ -1,6 +1,6 @@
 use mathlib.Core.Path.{sym, ap, _∙_}
 use borrow.Author.Needs.{needs}
-use Rattle.lists.specs.Answer.{number}
+use Rattle.reply.specs.Answer.{number}
 use Rattle.instance.proofs.Laws.{judge-none, judge-some}
 use Rattle.instance.proofs.instance_at.Statement.{statement}
 use Rattle.instance.proofs.instance_at.Tie as tie
