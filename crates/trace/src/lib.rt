@@ -132,8 +132,7 @@ fn walk(
             return stopped(book, h, table, list, i, n);
         }
         let k = instance::number_at(list, i, h.count);
-        let r = table::cell(table, k, table::HEAD);
-        flags[r] = true;
+        flags[table::cell(table, k, table::HEAD)] = true;
         state::put(book, h, table, k, list, i + 1, &mut rows);
         let at = i + 1 + table::cell(table, k, table::VARIABLES);
         let d = state::differs(book, h, &flags, &rows, list, at);
