@@ -9,23 +9,21 @@ use lib.ListN.{length, getD, take, drop, replicate, length-take, List·getD-map}
 use lib.Seq.{getD-take, getD-drop, length-take-le}
 use lib.Dec.{eqb}
 use lib.IntN.{ℤ, pos}
-use borrow.Author.Tests.{lt-ltb, eqb-false}
+use borrow.Author.Tests.{lt-ltb}
 use Rattle.meaning.specs.Constraint.{truth, holds}
 use Rattle.meaning.specs.Book.{at, atBody, head, body}
 use Rattle.cursor.specs.declared.Clause.{Clause}
 use Rattle.cursor.specs.Steps.{pick, valueThen}
 use Rattle.cursor.specs.Tree.{got}
-use Rattle.cursor.specs.Inverse.{pick-by}
 use Rattle.cursor.specs.Meaning.{atomIn, bodyIn, treeIn, clauseIn}
 use Rattle.cursor.specs.Sound.{Sound, Arguments}
 use Rattle.truth.specs.Front.{front-part, front-arguments, front-is-tree, front-tree}
 use Rattle.book.specs.declared.Header.{Header}
 use Rattle.book.specs.declared.Reading.the-variants.{Good}
-use Rattle.book.specs.Read.{read, topArity}
+use Rattle.book.specs.Read.{read}
 use Rattle.book.specs.Meaning.{bookIn}
-use Rattle.book.specs.Joined.{passed}
 use Rattle.book.specs.Trailer.{read-trailed}
-use Rattle.encode.specs.WrittenRecords.{arities-read}
+use Rattle.book.specs.Arities.{arity-small, arity-query}
 use Rattle.models.specs.Read.{Part, modelIn, rulesOf}
 use Rattle.models.specs.Walk.{step, satisfies, met, breaks}
 use Rattle.models.specs.Answer.{no-part}
@@ -53,26 +51,6 @@ arguments-more s v m p n h a = record { within = a .within; each = λ j l. omega
 -- ---- what an accepted book lends
 
 module _ (s : List ℕ) (h : Header) (good : read s ≡ Good h) where
-  -- relations have at most 8 places, the query none
-  arity-top : (r : ℕ) → r < h .relations → getD s r 0 ≤ topArity (h .query) r
-  arity-top r b =
-      let p = passed s h good in
-      let k = read-trailed s h good .kept in
-      let a = arities-read (take (h .start) s) (h .query) (h .relations) (record { at = 0; left = 0 }) (omega arith) (p .arities) in
-      let z : 0 + r ≡ r = omega arith in
-      let e : getD (take (h .start) s) r 0 ≡ getD s r 0 = getD-take (h .start) s r 0 (omega arith) in
-      rw e at (rw z at (a .each r b))
-
-  pub arity-small : (r : ℕ) → r < h .relations → getD s r 0 ≤ 8
-  unfolding topArity
-  arity-small r b = pick-by (λ n. getD s r 0 ≤ n → getD s r 0 ≤ 8) _ _ _ (λ t k. omega arith) (λ t k. k) (arity-top r b)
-
-  pub arity-query : getD s (h .query) 0 ≡ 0
-  unfolding topArity
-  arity-query =
-      let k = read-trailed s h good .kept in
-      pick-by (λ n. getD s (h .query) 0 ≤ n → getD s (h .query) 0 ≡ 0) _ _ _ (λ t k. omega arith) (λ t k. absurd (eqb-false (h .query) (h .query) t refl)) (arity-top (h .query) (k .query))
-
   -- ---- a relation in a model that was read
 
   module _ (t l : List ℕ) (st : Started t (take (h .relations) s) l) where
@@ -116,7 +94,7 @@ module _ (s : List ℕ) (h : Header) (good : read s ≡ Good h) where
       side : Side s 16 t seat (getD s r 0) (getD l r 0)
       side =
           let p = part-of r b in
-          record { small = arity-small r b; arguments = arguments-more s v 16 (seat + 1) (getD s r 0) few arguments; tree = rw (p .start) (p .tree) }
+          record { small = arity-small s h good r b; arguments = arguments-more s v 16 (seat + 1) (getD s r 0) few arguments; tree = rw (p .start) (p .tree) }
 
       side-holds : (vs : List ℤ) → holds (placesOf s seat (getD s r 0) vs) (treeIn t (getD s r 0) (getD l r 0)) ≡ satisfies (rulesIn t ns) (at (take v vs) (atomIn front r seat))
       unfolding satisfies atomIn placesOf

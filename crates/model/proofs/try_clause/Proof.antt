@@ -7,7 +7,6 @@ use Rattle.cursor.proofs.Laws.{via}
 use Rattle.model.specs.Reply.{clauseAnswer}
 use Rattle.model.proofs.Trying.{ready-at, Padded, padded-first, padded-next, due, due-first, due-broken, due-next, due-none}
 use Rattle.odometer.proofs.Laws.{capped-small}
-use Rattle.odometer.proofs.Totals.{window-open}
 use Rattle.model.proofs.try_clause.Statement.{statement}
 use Rattle.model.proofs.try_clause.Tie as tie
 
@@ -18,9 +17,6 @@ Inv-loop book h k t model before n left₀ values₀ seen₀ left values seen =
 
 abbrev μ-loop : tie.MeasureT-loop
 μ-loop book h k t model before n left₀ values₀ seen₀ left values seen = left
-
-count-of-requires : tie.Need-count-of-requires Inv-loop μ-loop
-count-of-requires c κs = search window-open
 
 loop-holds : tie.Need-loop-holds Inv-loop μ-loop
 loop-holds c = (omega (arith, capped-small _ (c .before .count-of .ensures)), search padded-first, search due-first)
@@ -45,7 +41,7 @@ try-clause-spec =
     Inv-loop
     μ-loop
     (λ c κs. search needs)
-    count-of-requires
+    (λ c κs. search needs)
     (λ c κs. search needs)
     loop-holds
     (λ c. search needs)
