@@ -9,7 +9,7 @@ use lib.ListN.{length, getD, take, drop, replicate, length-take, List·getD-map}
 use lib.Seq.{getD-take, getD-drop, length-take-le}
 use lib.Dec.{eqb}
 use lib.IntN.{ℤ, pos}
-use borrow.Author.Tests.{lt-ltb}
+use borrow.Author.Tests.{lt-ltb, eqb-false}
 use Rattle.meaning.specs.Constraint.{truth, holds}
 use Rattle.meaning.specs.Book.{at, atBody, head, body}
 use Rattle.cursor.specs.declared.Clause.{Clause}
