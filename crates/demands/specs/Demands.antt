@@ -3,7 +3,7 @@
 -- hold a book b.
 -- The words and the calls' names are in `Words`, and lead to what they mean; `Table` has document 01's cases; docs/READING.md explains the symbols.
 -- `Bytes s`: every number of s is below 256, as in whatever a program lends as bytes.
-use Prim.Native.Nat.{ℕ, _<_, _≤_, _^_}
+use Prim.Native.Nat.{ℕ, _+_, _<_, _≤_, _^_}
 use mathlib.Core.Path.{_≡_}
 use mathlib.Core.Logic.{_↔_, _⊎_}
 use mathlib.Core.Bool.{true, false}
@@ -47,11 +47,12 @@ pub record Demand1 (s : List ℕ) : Type 0 where
   pub printing : Replies print s
   -- ---- Parts ----------------------------------------------------------------------------------------------
   -- `book::constraint_of` hands out a part of the book: one part, empty for a refused book or an absent clause, and not empty for one that is there
-  pub some-part : (k : ℕ) → (x : List ℕ) × ConstraintOf s k x
-  pub one-part : (k : ℕ) (x y : List ℕ) → ConstraintOf s k x → ConstraintOf s k y → x ≡ y
-  pub part-refused : (n p : ℕ) → Refuses s n p → (k : ℕ) (x : List ℕ) → ConstraintOf s k x → x ≡ []
-  pub part-absent : (b : Book) → Holds s b → (k : ℕ) (x : List ℕ) → ConstraintOf s k x → length (b .clauses) ≤ k → x ≡ []
-  pub part-present : Bytes s → (b : Book) → Holds s b → (k : ℕ) (x : List ℕ) → ConstraintOf s k x → k < length (b .clauses) → 0 < length x
+  -- (m is the lent book: its bytes s, and where they stand)
+  pub some-part : (m : Lent) (k : ℕ) → m .bytes ≡ s → (x : Lent) × ConstraintOf m k x
+  pub one-part : (m x y : Lent) (k : ℕ) → m .bytes ≡ s → ConstraintOf m k x → ConstraintOf m k y → x ≡ y
+  pub part-refused : (n p : ℕ) → Refuses s n p → (m x : Lent) (k : ℕ) → m .bytes ≡ s → ConstraintOf m k x → x .bytes ≡ []
+  pub part-absent : (b : Book) → Holds s b → (m x : Lent) (k : ℕ) → m .bytes ≡ s → ConstraintOf m k x → length (b .clauses) ≤ k → x .bytes ≡ []
+  pub part-present : Bytes s → (b : Book) → Holds s b → (m x : Lent) (k : ℕ) → m .bytes ≡ s → ConstraintOf m k x → k < length (b .clauses) → 0 < length (x .bytes)
   -- `book::record`, by which the other calls read clause k of a book that they have accepted
   pub one-record : (h : Header) (k : ℕ) (x y : clauses.Clause) → Held s h k x → Held s h k y → x ≡ y
 
@@ -73,7 +74,7 @@ pub record InC (s : List ℕ) : Type 0 where
   -- ruahmitz_constraint: the part of r bytes from byte q on is the one that `book::constraint_of` hands out
   pub some-constraint : (k : ℕ) → (r q : ℕ) × Hands s k r q
   pub one-constraint : (k r q r′ q′ : ℕ) → Hands s k r q → Hands s k r′ q′ → (r ≡ r′) × (q ≡ q′)
-  pub same-constraint : (k r q : ℕ) (x : List ℕ) → Hands s k r q → ConstraintOf s k x → take r (drop q s) ≡ x
+  pub same-constraint : (k r q : ℕ) (m x : Lent) → m .bytes ≡ s → Hands s k r q → ConstraintOf m k x → (take r (drop q s) ≡ x .bytes) × (m .at + q ≡ x .at)
 
 -- ==== Demand 2: the calls accept exactly what document 01's meaning of a clause allows, and print that translation
 
@@ -88,9 +89,9 @@ pub record Demand2 (s : List ℕ) : Type 0 where
   pub one-writing : (t : List ℕ) → Bytes t → (b : Book) → Holds s b → Holds t b → s ≡ t
   -- the writing of every book within the limits is bytes
   pub writing-is-bytes : (b : Book) → Limits b → length (encode b) ≤ 60000 → Bytes (encode b)
-  -- the part handed out for clause k is the writing of its constraint
-  pub part-is-constraint : (b : Book) → Holds s b → (k : ℕ) (x : List ℕ) → ConstraintOf s k x → k < length (b .clauses)
-      → x ≡ constraintBytes (getD (b .clauses) k none-such .rule)
+  -- the part handed out for clause k is the very part of the lent book where its constraint stands (`Placed`): its bytes are the writing of the
+  -- constraint, with the rest of the book's writing around them, and it begins right after what is written before
+  pub part-is-constraint : (b : Book) → Holds s b → (m x : Lent) (k : ℕ) → m .bytes ≡ s → ConstraintOf m k x → k < length (b .clauses) → Placed m b k x
   -- ---- Derivations and traces -----------------------------------------------------------------------------
   -- `Asked`: the goal fits the book, and the list has 1 to 1,000,000 numbers.
   -- accepted exactly when the list is the numbers of a derivation d of the goal in the book that the bytes hold

@@ -25,12 +25,14 @@ use Rattle.book.specs.declared.Reading.the-variants.{Good}
 use Rattle.book.specs.Joined as joined
 use Rattle.book.specs.Answer as books
 use Rattle.book.specs.Read.{read, constraintOf}
+use Rattle.book.specs.Lent.{Lent, handed, handed-bytes}
 use Rattle.book.specs.OnBook.{onBook, refusedBy, reading, on-refused, on-accepted, on-both, reading-says}
 use Rattle.book.specs.Span.{spanOf}
 use Rattle.book.specs.Accepted as accepted
 use Rattle.encode.specs.Stands.{Bytes}
 use Rattle.encode.specs.Small.{encode-bytes}
 use Rattle.encode.specs.Part.{part-written, constraint-some}
+use Rattle.encode.specs.Placed.{part-placed}
 use Rattle.encode.specs.Exact as exact
 use Rattle.lists.specs.Derivation.{checkDerivation}
 use Rattle.lists.specs.Trace.{checkTrace}
@@ -55,13 +57,17 @@ use Rattle.script.specs.Plain.{parse-text}
 use Rattle.script.specs.Text.{text}
 use Rattle.text.specs.Calls as printed
 use Rattle.kit.specs.Promises as kit
-use Rattle.kit.specs.Part.{part-handed}
+use Rattle.kit.specs.Part.{part-handed, place-handed}
 use Rattle.demands.specs.Demands.{Replies, RepliesInC, InC, Demand1, Demand2, Demand3}
 use Rattle.demands.specs.Demands.Words as words
 use Rattle.demands.specs.Demands.Words.{Holds, ReadBook, IsDerivation, IsTrace, OneOf}
 use Rattle.demands.specs.Shared.{roomless, roomless-in-c, tells-pair, pair-tells, answering-replies, answering-in-c, filling-replies, filling-in-c, written-numbers}
 
 -- ---- what the citations need
+
+-- what is handed out of a book s that is lent as m
+bytes-handed : {s : List ℕ} (m : Lent) {x : Lent} (k : ℕ) → m .bytes ≡ s → x ≡ handed m k → x .bytes ≡ constraintOf s k
+bytes-handed m k e h = ap (λ (y : Lent). y .bytes) h ∙ handed-bytes m k ∙ ap (λ (t : List ℕ). constraintOf t k) e
 
 -- a check that accepts is one that says ok
 module _ (s : List ℕ) (l : List ℤ) (g : Fact) where
@@ -175,11 +181,11 @@ demand-1 s = record {
   to-trace = λ l g. filling-replies (λ d b. toTrace b flags (g .rel) (g .vals) l d) (9 ∷ 20 ∷ inDerivation) s (λ h. h) (λ d b. toTrace-fair b flags (g .rel) (g .vals) l d) (to-trace-numbers l g);
   to-derivation = λ l g. filling-replies (λ d b. toDerivation b flags (g .rel) (g .vals) l d) (9 ∷ inTrace) s (λ h. h) (λ d b. toDerivation-fair b flags (g .rel) (g .vals) l d) (to-derivation-numbers l g);
   printing = filling-replies (λ d b. written ok (text b) d) (9 ∷ []) s (λ h. h) (λ d b. written-fair ok (text b) d) print-numbers;
-  some-part = λ k. (constraintOf s k, refl);
-  one-part = λ k x y h j. h ∙ sym j;
-  part-refused = λ n p q k x h. h ∙ accepted.part-refused s n p q k;
-  part-absent = λ b held k x h far. h ∙ accepted.part-absent s b held k far;
-  part-present = λ bytes b held k x h below. rw (h ∙ part-written s bytes b held k below) (constraint-some _);
+  some-part = λ m k e. (handed m k, refl);
+  one-part = λ m x y k e h j. h ∙ sym j;
+  part-refused = λ n p q m x k e h. bytes-handed m k e h ∙ accepted.part-refused s n p q k;
+  part-absent = λ b held m x k e h far. bytes-handed m k e h ∙ accepted.part-absent s b held k far;
+  part-present = λ bytes b held m x k e h below. rw (bytes-handed m k e h ∙ part-written s bytes b held k below) (constraint-some _);
   one-record = joined.one-record s;
 }
 
@@ -195,7 +201,7 @@ demand-1-in-c s = record {
   text = filling-in-c (λ d b. written ok (text b) d) (9 ∷ []) s;
   some-constraint = λ k. (length (constraintOf s k), spanOf s k .start, record { long = refl; start = refl });
   one-constraint = λ k r q r′ q′. kit.one-handed;
-  same-constraint = λ k r q x u h. part-handed u ∙ sym h;
+  same-constraint = λ k r q m x e u h. (part-handed u ∙ sym (bytes-handed m k e h), sym (ap (λ (y : Lent). y .at) h ∙ place-handed u m e));
 }
 
 -- ---- Demand 2: of all bytes
@@ -213,7 +219,7 @@ demand-2 s bytes =
       accepts-exactly = exact.accepts-exactly s bytes;
       one-writing = λ t y b p q. sym (exact.accepts-exactly s bytes b .0 p .0) ∙ exact.accepts-exactly t y b .0 q .0;
       writing-is-bytes = encode-bytes;
-      part-is-constraint = λ b held k x h below. h ∙ part-written s bytes b held k below;
+      part-is-constraint = λ b held m x k e h below. part-placed m (rw e bytes) b (rw e held) k below x h;
       derivation-exact = λ l g x h.
           let e = derivations.exact s l (g .rel) (g .vals) x h in (
             λ a. let w = e .0 a in let d = w .derivation in (w .book, w .held, d .asked, d .steps, d .listed, d .derives),

@@ -9,7 +9,7 @@ use Rattle.reply.specs.Answer.{says, Answers}
 use Rattle.reply.specs.Among.{has}
 use Rattle.reply.specs.Room.{Due, Leaves}
 use Rattle.book.specs.Answer as books
-use Rattle.book.specs.Read.{constraintOf}
+use Rattle.book.specs.Lent.{handed}
 use Rattle.book.specs.OnBook.{refusedBy}
 use Rattle.lists.specs.Among.{inDerivation, inTrace}
 use Rattle.derivation.specs.Answer as derivation
@@ -28,6 +28,9 @@ pub use Rattle.meaning.specs.State.{State, flags, Flagged, first, Initial, Step
 pub use Rattle.meaning.specs.Stated.{StepsAlong}
 pub use Rattle.meaning.specs.Model.{Satisfies, Model}
 pub use Rattle.meaning.specs.Limits.{Limits}
+-- bytes that are lent, with the place where they stand; and where a clause's constraint stands in the writing of a book
+pub use Rattle.book.specs.Lent.{Lent}
+pub use Rattle.encode.specs.Placed.{Placed, writtenBefore}
 -- how a book and a constraint are written, and that numbers are bytes
 pub use Rattle.encode.specs.Encode.{encode, spell, constraintBytes}
 pub use Rattle.encode.specs.Stands.{Bytes}
@@ -82,9 +85,9 @@ Spells b ts m = Fit (b .arities) ts × (m ≡ spell constraintBytes ts)
 abbrev pub ReadBook : (s : List ℕ) (x : Reading) → Type 0
 ReadBook s x = books.Answers s x
 
--- x = book::constraint_of(s, k)
-abbrev pub ConstraintOf : (s : List ℕ) (k : ℕ) (x : List ℕ) → Type 0
-ConstraintOf s k x = x ≡ constraintOf s k
+-- x = book::constraint_of(m, k), where the book is lent as m: its bytes, and the place in memory where they stand
+abbrev pub ConstraintOf : (m : Lent) (k : ℕ) (x : Lent) → Type 0
+ConstraintOf m k x = x ≡ handed m k
 
 -- x = derivation::check(s, l, g)
 abbrev pub CheckDerivation : (s : List ℕ) (l : List ℤ) (g : Fact) (x : code.Answer) → Type 0
