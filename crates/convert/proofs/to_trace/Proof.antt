@@ -6,8 +6,8 @@ use Rattle.convert.proofs.to_trace.Tie as tie
 returns : tie.Need-returns
 returns c = search conversions
 
-check-in-requires : tie.Need-check-in-requires
-check-in-requires c κs = search accepted
+table-of-requires : tie.Need-table-of-requires
+table-of-requires c κs = search accepted
 
 traced-requires : tie.Need-traced-requires
 traced-requires c κs = search accepted
@@ -30,7 +30,8 @@ to-trace-spec =
     (λ c. search needs)
     (λ c κs. search needs)
     returns
-    check-in-requires
+    table-of-requires
+    (λ c κs. search needs)
     (λ c. search needs)
     (λ c. search needs)
     traced-requires
