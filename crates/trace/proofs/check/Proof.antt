@@ -10,8 +10,8 @@ returns : tie.Need-returns
 unfolding answer
 returns c = answers (search sequences)
 
-check-in-requires : tie.Need-check-in-requires
-check-in-requires c κs = search book-good
+table-of-requires : tie.Need-table-of-requires
+table-of-requires c κs = search book-good
 
 returns-2 : tie.Need-returns-2
 unfolding answer
@@ -26,5 +26,6 @@ check-spec =
     (λ c. search needs)
     (λ c κs. search needs)
     returns
-    check-in-requires
+    table-of-requires
+    (λ c κs. search needs)
     returns-2)
