@@ -25,11 +25,14 @@ fn sum(s: &[u8], at: usize, v: usize, values: &[i32], from: usize) -> i64
     requires { ⌜ (v ≤ 16) × ((at + (v * 2 + 4) ≤ length (now s)) × (from + v ≤ length (now values))) ⌝ }
     ensures { λ r. ⌜ Sized (valueOf (sumOf (now (s .entry)) v at) (take v (drop from (now (values .entry))))) 1125902054326272 r ⌝ }
 {
-    let mut acc = whole::i32_at(s, at + v * 2);
-    let mut k = 0;
-    while k < v {
-        acc += whole::i16_at(s, at + k * 2) * value_at(values, from + k);
-        k += 1;
+    let e = at + v * 2;
+    let mut acc = whole::i32_at(s, e);
+    let mut p = at;
+    let mut i = from;
+    while p < e {
+        acc += whole::i16_at(s, p) * value_at(values, i);
+        p += 2;
+        i += 1;
     }
     acc
 }
