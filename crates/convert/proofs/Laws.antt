@@ -168,7 +168,7 @@ module _ (b : Book) (r : ℕ) (vals l d : List ℤ) {y x : code.Answer} where
   unfolding toDerivation
   derivation-stop {g} p q e = rw e (replies-stop _ (asDerivation b flags r l) d g (told-no _ g (sym p ∙ q)))
 
-  module _ {n : ℕ} (p : y ≡ told (counted (checkDerivation b r vals l) n)) where
+  module _ (n : ℕ) (p : y ≡ told (counted (checkDerivation b r vals l) n)) where
     pub trace-on : {m : ℕ} {e : List ℤ} → y ≡ Done m → Leaves (written (limited (asTrace b flags l)) (asTrace b flags l) d) x e → Leaves (toTrace b flags r vals l d) x e
     unfolding toTrace limited andThen
     trace-on q w = rw (derived-ok b r vals l n p q) w

@@ -39,7 +39,6 @@ derived-spec =
     measure-requires
     (λ c κs. search needs)
     returns
-    (λ c. search needs)
     write-requires
     (λ c. search needs)
     returns-2)

@@ -10,7 +10,7 @@ table-of-requires : tie.Need-table-of-requires
 table-of-requires c κs = search accepted
 
 traced-requires : tie.Need-traced-requires
-traced-requires c κs = search accepted
+traced-requires c κs = (c .before .before .before .before .before .before .before .table-of .ensures, (search accepted, search accepted))
 
 returns-2 : tie.Need-returns-2
 returns-2 c = search conversions

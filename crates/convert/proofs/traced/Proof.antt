@@ -38,7 +38,7 @@ write-requires c κs =
 returns-3 : tie.Need-returns-3
 returns-3 c =
     let a = c .before .before .before .before .before .before .before .args in
-    replies-put (asTrace (bookIn (a .book .now) (a .h)) flags (a .list .now)) (a .room .now) _ (long-is (c .before .before .before .before .before .before .before .pre .1 .1) (c .before .before .before .before .before .size .ensures .is)) _ (c .before .before .before .if1 .left) (c .before .before .if2 .left) (c .before .write .ensures)
+    replies-put (asTrace (bookIn (a .book .now) (a .h)) flags (a .list .now)) (a .room .now) _ (long-is (c .before .before .before .before .before .before .before .pre .1 .1) (c .before .before .before .before .before .size .ensures .is)) _ (c .before .before .before .before .if1 .left) (c .before .before .before .if2 .left) (c .before .write .ensures)
 
 pub traced-spec : {M : Type 1} → statement M
 traced-spec =
