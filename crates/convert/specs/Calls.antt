@@ -40,10 +40,11 @@ toDerivationDue s l r vals d = onBook s (kept d) (λ b. toDerivation b flags r v
 unfoldable pub limited : List ℤ → Answer
 limited t = need (leb (length t) 1000000) 20 (length t) ok
 
--- how many numbers a derivation and its trace have
-pub record Long (b : Book) (l : List ℤ) : Type 0 where
+-- how many numbers a derivation of n steps and its trace have
+pub record Long (b : Book) (l : List ℤ) (n : ℕ) : Type 0 where
   pub few : length l ≤ 1000000
-  pub long : length (asTrace b flags l) ≡ size b flags + length l + length (derivationSteps b l) * size b flags
+  pub steps : n ≤ length l
+  pub long : length (asTrace b flags l) ≡ size b flags + length l + n * size b flags
 
 -- ---- what is left in the room
 

@@ -6,6 +6,7 @@ ghost use Rattle.reply.specs.Answer.{ok};
 ghost use Rattle.reply.specs.Room.{written, Leaves};
 ghost use Rattle.lists.specs.Convert.{asTrace, asDerivation};
 ghost use Rattle.book.specs.Meaning.{bookIn};
+ghost use Rattle.table.specs.Table.{Tabled};
 ghost use Rattle.steps.specs.Walk.{Walk};
 ghost use Rattle.back.specs.Walk.{Trace};
 ghost use Rattle.convert.specs.Calls.{limited, Long, toTraceDue, toDerivationDue};
@@ -16,22 +17,24 @@ ghost use Rattle.convert.specs.Calls.{limited, Long, toTraceDue, toDeriv
 fn derived(
     book: &[u8],
     h: book::Header,
+    table: &[[u16; 8]; 64],
     list: &[i32],
     relation: usize,
     room: &mut [i32],
 ) -> reply::Answer
-    requires { ⌜ Trace (now book) h (now list) (stateSize (bookIn (now book) h) state.flags) ⌝ }
+    requires { ⌜ Tabled (now book) h (now table) ⌝ }
+    requires { ⌜ Trace (now book) h state.flags (now list) (stateSize (bookIn (now book) h) state.flags) ⌝ }
     requires { ⌜ relation < 16 ⌝ }
     ensures { λ r. ⌜ Leaves (written ok (asDerivation (bookIn (now (book .entry)) h) state.flags relation (now (list .entry))) (now (room .entry))) r (now (room .exit)) ⌝ }
 {
     let size = state::size(book, h);
-    let mut marks = [0usize; 1024];
-    let measured = back::measure(book, h, list, size, relation, &mut marks);
+    let mut marks = [0u32; 1024];
+    let measured = back::measure(book, h, table, list, size, relation, &mut marks);
     let n = measured.numbers;
     if room.len() < n {
         return reply::refuse(9, n);
     }
-    back::write(book, h, list, size, relation as u8, &marks, measured, room);
+    back::write(book, h, table, list, size, relation, &marks, measured, room);
     reply::Answer::Done(n)
 }
 
@@ -49,29 +52,38 @@ pub fn to_derivation(
     let book::Reading::Good(h) = read else {
         return book::refused_by(read);
     };
-    match trace::check_in(book, h, list, relation, values) {
+    let table = table::table_of(book, h);
+    match trace::check_in(book, h, &table, list, relation, values) {
         reply::Answer::Refused(r) => reply::Answer::Refused(r),
-        reply::Answer::Done(_) => derived(book, h, list, relation, room),
+        reply::Answer::Done(_) => derived(book, h, &table, list, relation, room),
     }
 }
 
 // ---- derivation to trace
 
 // 20, 9, or the trace of an accepted derivation
-fn traced(book: &[u8], h: book::Header, list: &[i32], room: &mut [i32]) -> reply::Answer
+fn traced(
+    book: &[u8],
+    h: book::Header,
+    table: &[[u16; 8]; 64],
+    list: &[i32],
+    steps: usize,
+    room: &mut [i32],
+) -> reply::Answer
+    requires { ⌜ Tabled (now book) h (now table) ⌝ }
     requires { ⌜ Walk (now book) h (now list) 0 0 ⌝ }
-    requires { ⌜ Long (bookIn (now book) h) (now list) ⌝ }
+    requires { ⌜ Long (bookIn (now book) h) (now list) steps ⌝ }
     ensures { λ r. ⌜ Leaves (written (limited (asTrace (bookIn (now (book .entry)) h) state.flags (now (list .entry)))) (asTrace (bookIn (now (book .entry)) h) state.flags (now (list .entry))) (now (room .entry))) r (now (room .exit)) ⌝ }
 {
     let size = state::size(book, h);
-    let all = size + list.len() + forth::count(book, h, list) * size;
+    let all = size + list.len() + steps * size;
     if 1000000 < all {
         return reply::refuse(20, all);
     }
     if room.len() < all {
         return reply::refuse(9, all);
     }
-    forth::write(book, h, list, size, room);
+    forth::write(book, h, table, list, size, room);
     reply::Answer::Done(all)
 }
 
@@ -89,8 +101,9 @@ pub fn to_trace(
     let book::Reading::Good(h) = read else {
         return book::refused_by(read);
     };
-    match derivation::check_in(book, h, list, relation, values) {
+    let table = table::table_of(book, h);
+    match derivation::check_in(book, h, &table, list, relation, values) {
         reply::Answer::Refused(r) => reply::Answer::Refused(r),
-        reply::Answer::Done(_) => traced(book, h, list, room),
+        reply::Answer::Done(steps) => traced(book, h, &table, list, steps, room),
     }
 }

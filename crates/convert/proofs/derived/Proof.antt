@@ -8,10 +8,10 @@ use Rattle.convert.proofs.derived.Statement.{statement}
 use Rattle.convert.proofs.derived.Tie as tie
 
 size-requires : tie.Need-size-requires
-size-requires c κs = c .before .pre .0 .walk .good
+size-requires c κs = c .before .pre .0 .good
 
 measure-requires : tie.Need-measure-requires
-measure-requires c κs = let (trace, small) = c .before .before .before .pre in (trace-at trace (c .before .size .ensures .is), (small, refl))
+measure-requires c κs = let (table, (trace, small)) = c .before .before .before .pre in (table, (trace-at trace (c .before .size .ensures .is), (small, refl)))
 
 returns : tie.Need-returns
 returns c =
@@ -21,8 +21,9 @@ returns c =
 
 write-requires : tie.Need-write-requires
 write-requires c κs =
-    let (trace, small) = c .before .before .before .before .before .before .before .pre in
-    (trace-at trace (c .before .before .before .before .before .size .ensures .is), (c .before .before .before .measure .ensures, (small, c .before .before .if1 .left)))
+    let (table, (trace, small)) = c .before .before .before .before .before .before .before .pre in
+    let m = c .before .before .before .measure .ensures in
+    (table, (trace-at trace (c .before .before .before .before .before .size .ensures .is), (m .marked, (m .is, (small, c .before .before .if1 .left)))))
 
 returns-2 : tie.Need-returns-2
 returns-2 c =
@@ -38,7 +39,6 @@ derived-spec =
     measure-requires
     (λ c κs. search needs)
     returns
-    (λ c. search needs)
     write-requires
     (λ c. search needs)
     returns-2)

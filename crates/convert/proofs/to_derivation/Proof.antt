@@ -6,11 +6,11 @@ use Rattle.convert.proofs.to_derivation.Tie as tie
 returns : tie.Need-returns
 returns c = search conversions
 
-check-in-requires : tie.Need-check-in-requires
-check-in-requires c κs = search accepted
+table-of-requires : tie.Need-table-of-requires
+table-of-requires c κs = search accepted
 
 derived-requires : tie.Need-derived-requires
-derived-requires c κs = search accepted
+derived-requires c κs = (c .before .before .before .before .before .before .table-of .ensures, (search accepted, search accepted))
 
 returns-2 : tie.Need-returns-2
 returns-2 c = search conversions
@@ -30,7 +30,8 @@ to-derivation-spec =
     (λ c. search needs)
     (λ c κs. search needs)
     returns
-    check-in-requires
+    table-of-requires
+    (λ c κs. search needs)
     (λ c. search needs)
     (λ c. search needs)
     derived-requires
