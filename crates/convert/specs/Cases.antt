@@ -26,7 +26,7 @@ use Rattle.lists.specs.Derivation.{numbers, judgeStep, check, judgeGoal, judgeL
 use Rattle.lists.specs.Trace.{flat, sum, cut, allRows, firstOutRows, stateNumbers, size, moveNumbers, traceNumbers, has, meets, judgeMove, firstOf, judgeFirst, checkWalk, checkTrace}
 use Rattle.lists.specs.Convert.{derivationSteps, traceSteps, asTrace, asDerivation, toTrace, toDerivation}
 use Rattle.book.specs.Example.{bookB}
-use Rattle.facts.specs.Example.{listD, listT}
+use Rattle.asked.specs.Example.{listD, listT}
 use Rattle.book.specs.OnBook.{after, onBook}
 use Rattle.convert.specs.Calls.{toTraceDue, toDerivationDue}
 

@@ -28,7 +28,7 @@ use Rattle.lists.specs.Walker as walkers
 use Rattle.lists.specs.Derivation.{judgeStep, check, judgeGoal, judgeLength, checkDerivation}
 use Rattle.lists.specs.Trace.{flat, sum, cut, allRows, firstOutRows, stateNumbers, size, moveNumbers, traceNumbers, has, meets, judgeMove, firstOf, judgeFirst, checkWalk, checkTrace}
 use Rattle.lists.specs.Convert.{derivationSteps, asTrace, toTrace}
-use Rattle.facts.specs.Example.{listD, listT}
+use Rattle.asked.specs.Example.{listD, listT}
 use Rattle.book.specs.OnBook.{after, onBook}
 use Rattle.derivation.specs.Answer as derivations
 use Rattle.trace.specs.Answer as traces

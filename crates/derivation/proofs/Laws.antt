@@ -241,13 +241,6 @@ module _ (a b : Answer) (n : ℕ) {x y : code.Answer} where
 
 pub ruleset counting = (counted-stop, counted-on)
 
--- a goal that was accepted has a value for each place
-pub goal-full : (b : Book) (r : ℕ) (vs : List ℤ) {y : code.Answer} {n : ℕ} → y ≡ told (judgeGoal b r vs) → y ≡ Done n → length vs ≡ getD (b .arities) r 0
-unfolding judgeGoal
-goal-full b r vs p q =
-    let (t, e) = need-ok _ _ _ _ .0 (told-done _ (sym p ∙ q)) in
-    eqb→eq (length vs) (getD (b .arities) r 0) (need-ok _ _ _ _ .0 e .0)
-
 -- ---- the check's own answer has no steps in it
 
 module _ (a : Answer) (n : ℕ) {x y : code.Answer} where

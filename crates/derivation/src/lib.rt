@@ -151,9 +151,9 @@ pub fn check_in(
     requires { ⌜ Tabled (now book) h (now table) ⌝ }
     ensures { λ r. ⌜ r ≡ told (counted (checkDerivation (bookIn (now (book .entry)) h) relation (now (values .entry)) (now (list .entry))) (length (derivationSteps (bookIn (now (book .entry)) h) (now (list .entry))))) ⌝ }
 {
-    match facts::judged_goal(book, h, relation, values) {
+    match asked::judged_goal(book, h, relation, values) {
         reply::Answer::Refused(r) => reply::Answer::Refused(r),
-        reply::Answer::Done(_) => match facts::judged_length(list) {
+        reply::Answer::Done(_) => match asked::judged_length(list) {
             reply::Answer::Refused(r) => reply::Answer::Refused(r),
             reply::Answer::Done(_) => walk(book, h, table, list, relation, values),
         },

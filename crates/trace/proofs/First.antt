@@ -24,8 +24,7 @@ use Rattle.book.specs.declared.Reading.the-variants as readings
 use Rattle.book.specs.Read.{read}
 use Rattle.book.specs.Meaning.{bookIn}
 use Rattle.book.specs.Arities.{relations-are}
-use Rattle.facts.proofs.Judge.{need-yes, need-no, need-le, need-gt, ends-well}
-use Rattle.facts.proofs.Seats.{then-stop, then-on}
+use Rattle.asked.proofs.Judge.{need-yes, need-no, need-le, need-gt, ends-well, then-stop, then-on}
 use Rattle.state.specs.State.{front, Sized}
 use Rattle.state.specs.Laws.{front-replicate, bits-length}
 use Rattle.state.proofs.Shape.{size-is}

@@ -31,7 +31,7 @@ use Rattle.table.specs.Table.{Tabled}
 use Rattle.instance.specs.Values.{numberOr, numberIn, Whole}
 use Rattle.instance.proofs.Laws.{number-is, values-length, out-whole, enabled-stop, enabled-met, enabled-unmet, instance-room}
 use Rattle.instance.proofs.Atoms.{head-at, head-there, head-below, head-full}
-use Rattle.facts.proofs.Judge.{need-yes, need-no, ends-well}
+use Rattle.asked.proofs.Judge.{need-yes, need-no, ends-well}
 use Rattle.state.specs.State.{stateOf, rowPut, firstRows, Sized}
 use Rattle.state.specs.Laws.{state-put, state-many, state-first, put-length}
 use Rattle.state.proofs.Shape.{relations-few, arities-few, arities-small, size-is}

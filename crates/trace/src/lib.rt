@@ -176,9 +176,9 @@ pub fn check_in(
     requires { ⌜ Tabled (now book) h (now table) ⌝ }
     ensures { λ r. ⌜ r ≡ told (checkTrace (bookIn (now (book .entry)) h) state.flags relation (now (values .entry)) (now (list .entry))) ⌝ }
 {
-    match facts::judged_goal(book, h, relation, values) {
+    match asked::judged_goal(book, h, relation, values) {
         reply::Answer::Refused(r) => reply::Answer::Refused(r),
-        reply::Answer::Done(_) => match facts::judged_length(list) {
+        reply::Answer::Done(_) => match asked::judged_length(list) {
             reply::Answer::Refused(r) => reply::Answer::Refused(r),
             reply::Answer::Done(_) => traced(book, h, table, list, relation, values),
         },

@@ -1,6 +1,7 @@
 use borrow.Author.Needs.{needs}
 use Rattle.lists.specs.Derivation.{checkDerivation}
-use Rattle.derivation.proofs.Laws.{counting, goal-full}
+use Rattle.asked.proofs.Judge.{goal-full}
+use Rattle.derivation.proofs.Laws.{counting}
 use Rattle.derivation.proofs.check_in.Statement.{statement}
 use Rattle.derivation.proofs.check_in.Tie as tie
 

@@ -1,6 +1,6 @@
 use Rattle.reply.specs.Answer.{answers}
 use Rattle.book.proofs.Calls.{book-good}
-use Rattle.facts.proofs.Seats.{sequences}
+use Rattle.asked.proofs.Judge.{sequences}
 use Rattle.trace.specs.Answer.{answer}
 use borrow.Author.Needs.{needs}
 use Rattle.trace.proofs.check.Statement.{statement}

@@ -1,5 +1,5 @@
 use Rattle.lists.specs.Trace.{checkTrace}
-use Rattle.facts.proofs.Seats.{sequences}
+use Rattle.asked.proofs.Judge.{sequences}
 use Rattle.trace.proofs.First.{goal-below, goal-full}
 use borrow.Author.Needs.{needs}
 use Rattle.trace.proofs.check_in.Statement.{statement}

@@ -1,7 +1,7 @@
-use Rattle.facts.proofs.Judge.{lengths}
+use Rattle.asked.proofs.Judge.{lengths}
 use borrow.Author.Needs.{needs}
-use Rattle.facts.proofs.judged_length.Statement.{statement}
-use Rattle.facts.proofs.judged_length.Tie as tie
+use Rattle.asked.proofs.judged_length.Statement.{statement}
+use Rattle.asked.proofs.judged_length.Tie as tie
 
 returns : tie.Need-returns
 returns c = search lengths

@@ -1,13 +1,10 @@
-use Rattle.facts.proofs.Judge.{goals, arity-there}
+use Rattle.asked.proofs.Judge.{goals}
 use borrow.Author.Needs.{needs}
-use Rattle.facts.proofs.judged_goal.Statement.{statement}
-use Rattle.facts.proofs.judged_goal.Tie as tie
+use Rattle.asked.proofs.judged_goal.Statement.{statement}
+use Rattle.asked.proofs.judged_goal.Tie as tie
 
 returns : tie.Need-returns
 returns c = search goals
-
-shared-slice-read-wide : tie.Need-shared-slice-read-wide
-shared-slice-read-wide c = search arity-there
 
 returns-2 : tie.Need-returns-2
 returns-2 c = search goals
@@ -22,7 +19,6 @@ judged-goal-spec =
     (λ c κs. search needs)
     (λ c κs. search needs)
     returns
-    shared-slice-read-wide
     (λ c κs. search needs)
     (λ c κs. search needs)
     returns-2

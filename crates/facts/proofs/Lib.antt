@@ -1,5 +1,0 @@
-pub mod Numbers
-pub mod Laws
-pub mod Windows
-pub mod Judge
-pub mod Seats

@@ -1,3 +1,0 @@
-pub mod Place
-pub mod Instance
-pub mod Example
