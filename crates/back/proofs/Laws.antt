@@ -1,7 +1,7 @@
 -- The laws of measuring and of walking back.
 use mathlib.Core.Path.{_≡_, refl, sym, ap, _∙_}
 use mathlib.Core.Logic.{_≢_}
-use mathlib.Core.Option.{none, some}
+use mathlib.Core.Option.{some}
 use mathlib.Core.List.{List, _∷_, _++_, append-assoc}
 use Prim.Native.Nat.{ℕ, zero, suc, _+_, _-_, _*_, _≤_, _<_}
 use native.Mathlib.Decide.{ℕ-discrete, decLt}
@@ -11,38 +11,22 @@ use lib.Seq.{getD-set-same, getD-set-other}
 use lib.IntN.{ℤ, pos}
 use borrow.Author.Tests.{eq-eqb, ne-eqb}
 use Rattle.meaning.specs.Book.{Book, Instance}
-use Rattle.meaning.specs.State.{flags}
-use Rattle.lists.specs.Instance.{clauseAt}
+use Rattle.meaning.specs.State.{Control}
 use Rattle.lists.specs.Trace.{size}
 use Rattle.lists.specs.Convert.{asDerivation}
 use Rattle.lists.specs.Places.{clauseHere, stepHere, start, start-first, start-next, numbers-here}
 use Rattle.lists.specs.Back.{relationOf, traceStart, coming, coming-none, coming-first, coming-all, coming-wrote, coming-other, coming-length}
-use Rattle.cursor.specs.declared.Clause.{Clause}
 use Rattle.cursor.specs.Steps.{pick}
 use Rattle.book.specs.declared.Header.{Header}
 use Rattle.book.specs.Meaning.{bookIn}
-use Rattle.book.specs.declared.Reading.the-variants.{Good}
-use Rattle.book.specs.Read.{read}
-use Rattle.book.specs.Joined.{Held, record-read, held, count-is}
-use Rattle.facts.specs.Instance.{numberIn}
+use Rattle.table.specs.Table.{Tabled}
 use Rattle.steps.specs.Put.{Put, put-length, put-from}
 use Rattle.steps.specs.Walk.{Here}
-use Rattle.steps.proofs.Places.{start-add, start-far, start-long, vars-of, head-of, head-small, body-small, here-at}
-use Rattle.back.specs.declared.Block.{Block}
+use Rattle.steps.proofs.Places.{start-add, start-far, start-long, here-at}
 use Rattle.back.specs.declared.Wanted.{Wanted}
 use Rattle.back.specs.Walk.{Trace, bodyCount, Filled, Kept, Marked}
 use Rattle.back.specs.Gone.{told, Wrote, Due, Stepped, Left, whole, Gone}
-use Rattle.back.proofs.Places.{body-of, trace-start, size-some}
-
--- ---- the relation that a number tells
-
-pub told-none : (n : ℕ) → n ≡ 255 → told n ≡ none
-unfolding told pick
-told-none n e = rw (eq-eqb n 255 e)
-
-pub told-some : (n : ℕ) → n ≢ 255 → told n ≡ some n
-unfolding told pick
-told-some n e = rw (ne-eqb n 255 e)
+use Rattle.back.proofs.Places.{told-none, told-some, told-small, Cells, cells-at, trace-start}
 
 -- ---- how many numbers a body's derivation has
 
@@ -56,63 +40,63 @@ count-some counts n e = rw (ne-eqb n 255 e)
 
 -- ---- a trace whose steps are instances
 
-module _ (b : Book) (l : List ℤ) (every : (j : ℕ) → traceStart b flags l j < length l → Instance b (stepHere b l (traceStart b flags l j))) where
+module _ (b : Book) (C : Control) (l : List ℤ) (every : (j : ℕ) → traceStart b C l j < length l → Instance b (stepHere b l (traceStart b C l j))) where
   -- a step's numbers
-  part-of : (j : ℕ) → traceStart b flags l j < length l → let i = traceStart b flags l j in
+  part-of : (j : ℕ) → traceStart b C l j < length l → let i = traceStart b C l j in
       pos (stepHere b l i .clause) ∷ stepHere b l i .vals ≡ take (clauseHere b l i .vars + 1) (drop i l)
-  part-of j q = numbers-here b l (traceStart b flags l j) q (every j q)
+  part-of j q = numbers-here b l (traceStart b C l j) q (every j q)
 
-  part-length : (j : ℕ) → traceStart b flags l j < length l → let i = traceStart b flags l j in
+  part-length : (j : ℕ) → traceStart b C l j < length l → let i = traceStart b C l j in
       length (take (clauseHere b l i .vars + 1) (drop i l)) ≡ clauseHere b l i .vars + 1
   part-length j q = rw (← (part-of j q)) (omega (arith, every j q .count))
 
   -- it wrote what is wanted
-  wrote-part : (j : ℕ) → traceStart b flags l j < length l → (r : ℕ) → clauseHere b l (traceStart b flags l j) .head .rel ≡ r →
-      let i = traceStart b flags l j in
-      coming b flags l (some r) (j + 1) ≡ coming b flags l (relationOf (clauseHere b l i .body)) j ++ take (clauseHere b l i .vars + 1) (drop i l)
-  wrote-part j q r e = rw (← (part-of j q)) (coming-wrote b flags l j q r e)
+  wrote-part : (j : ℕ) → traceStart b C l j < length l → (r : ℕ) → clauseHere b l (traceStart b C l j) .head .rel ≡ r →
+      let i = traceStart b C l j in
+      coming b C l (some r) (j + 1) ≡ coming b C l (relationOf (clauseHere b l i .body)) j ++ take (clauseHere b l i .vars + 1) (drop i l)
+  wrote-part j q r e = rw (← (part-of j q)) (coming-wrote b C l j q r e)
 
-  pub wrote-length : (j : ℕ) → traceStart b flags l j < length l → (r : ℕ) → clauseHere b l (traceStart b flags l j) .head .rel ≡ r →
-      let i = traceStart b flags l j in
-      length (coming b flags l (some r) (j + 1)) ≡ length (coming b flags l (relationOf (clauseHere b l i .body)) j) + (1 + clauseHere b l i .vars)
+  pub wrote-length : (j : ℕ) → traceStart b C l j < length l → (r : ℕ) → clauseHere b l (traceStart b C l j) .head .rel ≡ r →
+      let i = traceStart b C l j in
+      length (coming b C l (some r) (j + 1)) ≡ length (coming b C l (relationOf (clauseHere b l i .body)) j) + (1 + clauseHere b l i .vars)
   wrote-length j q r e = rw (wrote-part j q r e, length-append) (omega (arith, part-length j q))
 
   -- it did not
-  pub other-same : (j : ℕ) → traceStart b flags l j < length l → (n : ℕ) → clauseHere b l (traceStart b flags l j) .head .rel ≢ n → coming b flags l (told n) (j + 1) ≡ coming b flags l (told n) j
+  pub other-same : (j : ℕ) → traceStart b C l j < length l → (n : ℕ) → clauseHere b l (traceStart b C l j) .head .rel ≢ n → coming b C l (told n) (j + 1) ≡ coming b C l (told n) j
   other-same j q n e = go (ℕ-discrete n 255)
     where
-      go : Dec (n ≡ 255) → coming b flags l (told n) (j + 1) ≡ coming b flags l (told n) j
-      go (yes y) = rw (told-none n y) (coming-none b flags l (j + 1) ∙ sym (coming-none b flags l j))
-      go (no y) = rw (told-some n y) (coming-other b flags l j q n e)
+      go : Dec (n ≡ 255) → coming b C l (told n) (j + 1) ≡ coming b C l (told n) j
+      go (yes y) = rw (told-none n y) (coming-none b C l (j + 1) ∙ sym (coming-none b C l j))
+      go (no y) = rw (told-some n y) (coming-other b C l j q n e)
 
   -- from the end on, nothing more is coming
-  pub coming-end : (n j k : ℕ) → length l ≤ traceStart b flags l j → length l ≤ traceStart b flags l k → coming b flags l (told n) j ≡ coming b flags l (told n) k
+  pub coming-end : (n j k : ℕ) → length l ≤ traceStart b C l j → length l ≤ traceStart b C l k → coming b C l (told n) j ≡ coming b C l (told n) k
   coming-end n j k p q = go (ℕ-discrete n 255)
     where
-      go : Dec (n ≡ 255) → coming b flags l (told n) j ≡ coming b flags l (told n) k
-      go (yes y) = rw (told-none n y) (coming-none b flags l j ∙ sym (coming-none b flags l k))
-      go (no y) = rw (told-some n y) (coming-all b flags l n j p ∙ sym (coming-all b flags l n k q))
+      go : Dec (n ≡ 255) → coming b C l (told n) j ≡ coming b C l (told n) k
+      go (yes y) = rw (told-none n y) (coming-none b C l j ∙ sym (coming-none b C l k))
+      go (no y) = rw (told-some n y) (coming-all b C l n j p ∙ sym (coming-all b C l n k q))
 
   -- ---- the walk back
 
-  module _ (j : ℕ) (inside : traceStart b flags l j < length l) (small : clauseHere b l (traceStart b flags l j) .head .rel < 16) (w : Wanted) (d : List ℤ) (left : Left b l (j + 1) w d) where
-    own : clauseHere b l (traceStart b flags l j) .head .rel ≡ w .relation → told (w .relation) ≡ some (w .relation)
-    own e = told-some (w .relation) (λ y. let z : ⊥ = omega arith in z)
+  module _ (j : ℕ) (inside : traceStart b C l j < length l) (small : clauseHere b l (traceStart b C l j) .head .rel < 16) (w : Wanted) (d : List ℤ) (left : Left b C l (j + 1) w d) where
+    own : clauseHere b l (traceStart b C l j) .head .rel ≡ w .relation → told (w .relation) ≡ some (w .relation)
+    own e = told-small (w .relation) (omega arith)
 
-    pub due-of : Due b l (traceStart b flags l j) w d
+    pub due-of : Due b l (traceStart b C l j) w d
     due-of = record {
       fits = left .fits;
       some = λ e. omega (arith, rw (own e) at (left .at), wrote-length j inside (w .relation) e);
     }
 
-    pub gone-step : {r : Wanted} {e : List ℤ} → Stepped b l (traceStart b flags l j) w d r e → Gone b l (j + 1) w d j r e
+    pub gone-step : {r : Wanted} {e : List ℤ} → Stepped b l (traceStart b C l j) w d r e → Gone b C l (j + 1) w d j r e
     unfolding whole
-    gone-step {r} {e} y = go (ℕ-discrete (clauseHere b l (traceStart b flags l j) .head .rel) (w .relation))
+    gone-step {r} {e} y = go (ℕ-discrete (clauseHere b l (traceStart b C l j) .head .rel) (w .relation))
       where
-        go : Dec (clauseHere b l (traceStart b flags l j) .head .rel ≡ w .relation) → Gone b l (j + 1) w d j r e
+        go : Dec (clauseHere b l (traceStart b C l j) .head .rel ≡ w .relation) → Gone b C l (j + 1) w d j r e
         go (yes q) =
             let (body, p) = y .wrote q in
-            let n : w .at ≡ length (coming b flags l (some (w .relation)) (j + 1)) = rw (own q) at (left .at) in
+            let n : w .at ≡ length (coming b C l (some (w .relation)) (j + 1)) = rw (own q) at (left .at) in
             record {
               left = record {
                 at = rw body (omega (arith, n, wrote-length j inside (w .relation) q, p .from, part-length j inside));
@@ -127,121 +111,109 @@ module _ (b : Book) (l : List ℤ) (every : (j : ℕ) → traceStart b flags l j
             rw (same, kept) (record { left = record { at = rw (← n) (left .at); fits = left .fits }; same = rw (← n); long = refl })
 
   -- where the steps end before the block does
-  pub gone-start : (j n : ℕ) (w : Wanted) (d : List ℤ) → n ≤ 512 → (n < 512 → length l ≤ traceStart b flags l (j + n)) → traceStart b flags l (j + n) ≤ traceStart b flags l (j + 512)
-      → Left b l (j + 512) w d → Gone b l (j + 512) w d (j + n) w d
+  pub gone-start : (j n : ℕ) (w : Wanted) (d : List ℤ) → n ≤ 512 → (n < 512 → length l ≤ traceStart b C l (j + n)) → traceStart b C l (j + n) ≤ traceStart b C l (j + 512)
+      → Left b C l (j + 512) w d → Gone b C l (j + 512) w d (j + n) w d
   unfolding whole
   gone-start j n w d few full up left = go (decLt n 512)
     where
-      same : coming b flags l (told (w .relation)) (j + n) ≡ coming b flags l (told (w .relation)) (j + 512) → Gone b l (j + 512) w d (j + n) w d
+      same : coming b C l (told (w .relation)) (j + n) ≡ coming b C l (told (w .relation)) (j + 512) → Gone b C l (j + 512) w d (j + n) w d
       same e = record { left = record { at = rw e (left .at); fits = left .fits }; same = rw e; long = refl }
 
-      go : Dec (n < 512) → Gone b l (j + 512) w d (j + n) w d
+      go : Dec (n < 512) → Gone b C l (j + 512) w d (j + n) w d
       go (yes h) = same (coming-end (w .relation) (j + n) (j + 512) (full h) (omega (arith, full h)))
-      go (no h) = let z : n ≡ 512 = omega arith in same (ap (λ (k : ℕ). coming b flags l (told (w .relation)) (j + k)) z)
+      go (no h) = let z : n ≡ 512 = omega arith in same (ap (λ (k : ℕ). coming b C l (told (w .relation)) (j + k)) z)
 
-pub gone-join : {b : Book} {l : List ℤ} {i : ℕ} {v : Wanted} {c : List ℤ} {j : ℕ} {w : Wanted} {d : List ℤ} {k : ℕ} {r : Wanted} {e : List ℤ}
-    → Gone b l i v c j w d → Gone b l j w d k r e → Gone b l i v c k r e
-gone-join p q = record { left = q .left; same = q .same ∙ p .same; long = q .long ∙ p .long }
+module _ {b : Book} {C : Control} {l : List ℤ} {i : ℕ} {v : Wanted} {c : List ℤ} {j : ℕ} {w : Wanted} {d : List ℤ} (p : Gone b C l i v c j w d) where
+  pub gone-join : {k : ℕ} {r : Wanted} {e : List ℤ} → Gone b C l j w d k r e → Gone b C l i v c k r e
+  gone-join q = record { left = q .left; same = q .same ∙ p .same; long = q .long ∙ p .long }
 
--- all is written
-pub gone-end : (b : Book) (l : List ℤ) (i : ℕ) (v : Wanted) (c : List ℤ) (r : Wanted) (e : List ℤ) → Gone b l i v c 0 r e → e ≡ whole b l i v c
-unfolding whole
-gone-end b l i v c r e p =
-    let none = coming-first b flags l (told (r .relation)) in
-    let z : r .at ≡ 0 = p .left .at ∙ ap length none in
-    (let q = p .same in rw (none, z) at q)
+  -- at a number of the same size
+  pub gone-at : {k : ℕ} → j ≡ k → Gone b C l i v c k w d
+  gone-at e = rw e at p
 
--- at a number of the same size
-pub left-at : {b : Book} {l : List ℤ} {j k : ℕ} {w : Wanted} {d : List ℤ} → Left b l j w d → j ≡ k → Left b l k w d
+  -- all is written
+  pub gone-end : j ≡ 0 → d ≡ whole b C l i v c
+  unfolding whole
+  gone-end z =
+      let none = coming-first b C l (told (w .relation)) in
+      let q = gone-at z in
+      let y : w .at ≡ 0 = q .left .at ∙ ap length none in
+      (let x = q .same in rw (none, y) at x)
+
+pub left-at : {b : Book} {C : Control} {l : List ℤ} {j k : ℕ} {w : Wanted} {d : List ℤ} → Left b C l j w d → j ≡ k → Left b C l k w d
 left-at left e = rw e at left
 
-pub gone-at : {b : Book} {l : List ℤ} {i : ℕ} {v : Wanted} {c : List ℤ} {j k : ℕ} {r : Wanted} {e : List ℤ} → Gone b l i v c j r e → j ≡ k → Gone b l i v c k r e
-gone-at p e = rw e at p
-
-pub gone-here : {b : Book} {l : List ℤ} {j : ℕ} {w : Wanted} {d : List ℤ} → Left b l j w d → Gone b l j w d j w d
+pub gone-here : {b : Book} {C : Control} {l : List ℤ} {j : ℕ} {w : Wanted} {d : List ℤ} → Left b C l j w d → Gone b C l j w d j w d
 gone-here left = record { left = left; same = refl; long = refl }
 
 -- ---- measuring
 
 -- the first n steps are counted, and step n starts at place i
-pub record Counted (b : Book) (l : List ℤ) (counts : List ℕ) (i n : ℕ) : Type 0 where
-  pub at : i ≡ traceStart b flags l n
+pub record Counted (b : Book) (C : Control) (l : List ℤ) (counts : List ℕ) (i n : ℕ) : Type 0 where
+  pub at : i ≡ traceStart b C l n
   pub long : length counts ≡ 16
-  pub is : (q : ℕ) → q < 16 → getD counts q 0 ≡ length (coming b flags l (some q) n)
+  pub is : (q : ℕ) → q < 16 → getD counts q 0 ≡ length (coming b C l (some q) n)
 
 zeros : (n q : ℕ) → _≡_ {A = ℕ} (getD (replicate n 0) q 0) 0
 zeros zero q = refl
 zeros (suc n) zero = refl
 zeros (suc n) (suc q) = zeros n q
 
-pub counted-first : (b : Book) (l : List ℤ) (z : ℕ) → z ≡ size b flags → Counted b l (replicate 16 0) z 0
-counted-first b l z e = record {
-  at = e ∙ sym (start-first b (size b flags) l (size b flags));
+pub counted-first : (b : Book) (C : Control) (l : List ℤ) (z : ℕ) → z ≡ size b C → Counted b C l (replicate 16 0) z 0
+counted-first b C l z e = record {
+  at = e ∙ sym (start-first b (size b C) l (size b C));
   long = refl;
-  is = λ q h. zeros 16 q ∙ sym (ap length (coming-first b flags l (some q)));
+  is = λ q h. zeros 16 q ∙ sym (ap length (coming-first b C l (some q)));
 }
 
-pub body-counted : {b : Book} {l : List ℤ} {counts : List ℕ} {i j : ℕ} (w : Counted b l counts i j) (n : ℕ) → (n ≢ 255 → n < 16)
-    → bodyCount counts n ≡ length (coming b flags l (told n) j)
-body-counted {b} {l} {counts} {i} {j} w n small = go (ℕ-discrete n 255)
+body-counted : {b : Book} {C : Control} {l : List ℤ} {counts : List ℕ} {i j : ℕ} (w : Counted b C l counts i j) (n : ℕ) → (n ≢ 255 → n < 16)
+    → bodyCount counts n ≡ length (coming b C l (told n) j)
+body-counted {b} {C} {l} {counts} {i} {j} w n small = go (ℕ-discrete n 255)
   where
-    go : Dec (n ≡ 255) → bodyCount counts n ≡ length (coming b flags l (told n) j)
-    go (yes y) = rw (told-none n y) (sym (count-none counts n y) ∙ sym (ap length (coming-none b flags l j)))
+    go : Dec (n ≡ 255) → bodyCount counts n ≡ length (coming b C l (told n) j)
+    go (yes y) = rw (told-none n y) (sym (count-none counts n y) ∙ sym (ap length (coming-none b C l j)))
     go (no y) = rw (told-some n y) (sym (count-some counts n y) ∙ w .is n (small y))
 
-module _ (s : List ℕ) (h : Header) (l : List ℤ) (z : ℕ) (t : Trace s h l z) where
-  pub every-of : (j : ℕ) → traceStart (bookIn s h) flags l j < length l → Instance (bookIn s h) (stepHere (bookIn s h) l (traceStart (bookIn s h) flags l j))
-  every-of j q = rw (trace-start s h l z t j) at (t .walk .steps j (rw (trace-start s h l z t j) q) .0)
+module _ {s : List ℕ} {h : Header} {C : Control} {l : List ℤ} {z : ℕ} (t : Trace s h C l z) where
+  every-of : (j : ℕ) → traceStart (bookIn s h) C l j < length l → Instance (bookIn s h) (stepHere (bookIn s h) l (traceStart (bookIn s h) C l j))
+  every-of j q = rw (trace-start t j) at (t .walk .steps j (rw (trace-start t j) q) .0)
 
-  pub here-of : (i j : ℕ) → i ≡ traceStart (bookIn s h) flags l j → i < length l → Here s h l z i
-  here-of i j e q = here-at s h l z (t .walk) j i (e ∙ sym (trace-start s h l z t j)) q
+  here-of : (i j : ℕ) → i ≡ traceStart (bookIn s h) C l j → i < length l → Here s h l z i
+  here-of i j e q = here-at s h l z (t .walk) j i (e ∙ sym (trace-start t j)) q
 
-  module _ {counts : List ℕ} {i n : ℕ} (w : Counted (bookIn s h) l counts i n) where
+  module _ {counts : List ℕ} {i n : ℕ} (w : Counted (bookIn s h) C l counts i n) where
     pub counted-here : i < length l → Here s h l z i
     counted-here = here-of i n (w .at)
 
-    module _ (q : i < length l) (c : Clause) (held : Held s h (numberIn s h l i) c) where
-      inside : traceStart (bookIn s h) flags l n < length l
+    module _ (q : i < length l) {v head body : ℕ} (c : Cells (bookIn s h) l i v head body) where
+      inside : traceStart (bookIn s h) C l n < length l
       inside = rw (w .at) at q
 
-      vars-here : clauseHere (bookIn s h) l (traceStart (bookIn s h) flags l n) .vars ≡ c .variables
-      vars-here = rw (w .at) at (vars-of s h (numberIn s h l i) c held)
+      there : Cells (bookIn s h) l (traceStart (bookIn s h) C l n) v head body
+      there = rw (w .at) at c
 
-      head-here : clauseHere (bookIn s h) l (traceStart (bookIn s h) flags l n) .head .rel ≡ c .head
-      head-here = rw (w .at) at (head-of s h (numberIn s h l i) c held)
+      pub counted-small : bodyCount counts body ≤ i
+      counted-small = omega (arith, body-counted w body (c .body-small), coming-length (bookIn s h) C l n (told body), w .at)
 
-      body-here : told (c .body) ≡ relationOf (clauseHere (bookIn s h) l (traceStart (bookIn s h) flags l n) .body)
-      body-here = rw (w .at) at (body-of s h (numberIn s h l i) c held)
-
-      -- the next step's start
-      next : i + (1 + c .variables) + z ≡ traceStart (bookIn s h) flags l (n + 1)
-      next = omega (arith, start-next (bookIn s h) (size (bookIn s h) flags) l (size (bookIn s h) flags) n, w .at, t .size, vars-here)
-
-      pub counted-small : bodyCount counts (c .body) ≤ i
-      counted-small =
-          let small = body-small s h (numberIn s h l i) c held (t .walk .good) in
-          omega (arith, body-counted w (c .body) small, coming-length (bookIn s h) flags l n (told (c .body)), w .at)
-
-      pub counted-more : {x : ℕ} → x ≡ bodyCount counts (c .body) + (1 + c .variables) → Counted (bookIn s h) l (set counts (c .head) x) (i + (1 + c .variables) + z) (n + 1)
+      pub counted-more : {x : ℕ} → x ≡ bodyCount counts body → Counted (bookIn s h) C l (set counts head (x + (1 + v))) (i + (1 + v) + z) (n + 1)
       counted-more {x} e = record {
-        at = next;
-        long = length-set counts (c .head) x ∙ w .long;
-        is = λ r k. go r k (ℕ-discrete r (c .head));
+        at = omega (arith, start-next (bookIn s h) (size (bookIn s h) C) l (size (bookIn s h) C) n, w .at, t .size, there .vars);
+        long = length-set counts head (x + (1 + v)) ∙ w .long;
+        is = λ r k. go r k (ℕ-discrete r head);
       }
         where
-          go : (r : ℕ) → r < 16 → Dec (r ≡ c .head) → getD (set counts (c .head) x) r 0 ≡ length (coming (bookIn s h) flags l (some r) (n + 1))
+          go : (r : ℕ) → r < 16 → Dec (r ≡ head) → getD (set counts head (x + (1 + v))) r 0 ≡ length (coming (bookIn s h) C l (some r) (n + 1))
           go r k (yes y) =
-              let b = bookIn s h in
-              let size : c .head < length counts = omega (arith, head-small s h (numberIn s h l i) c held (t .walk .good), w .long) in
-              let own = body-counted w (c .body) (body-small s h (numberIn s h l i) c held (t .walk .good)) in
-              let whole = wrote-length b l every-of n inside (c .head) head-here in
-              rw y (getD-set-same counts (c .head) x 0 size ∙ omega (arith, e, rw body-here at own, whole, vars-here))
+              let long : head < length counts = omega (arith, c .head-small, w .long) in
+              let own = body-counted w body (c .body-small) in
+              let all = wrote-length (bookIn s h) C l every-of n inside head (there .head-is) in
+              rw y (getD-set-same counts head (x + (1 + v)) 0 long ∙ omega (arith, e, rw (there .body-is) at own, all, there .vars))
           go r k (no y) =
-              getD-set-other counts (c .head) r x 0 y ∙ w .is r k
-              ∙ sym (ap length (coming-other (bookIn s h) flags l n inside r (λ m. y (sym m ∙ head-here))))
+              getD-set-other counts head r (x + (1 + v)) 0 y ∙ w .is r k
+              ∙ sym (ap length (coming-other (bookIn s h) C l n inside r (λ m. y (sym m ∙ there .head-is))))
 
-  pub counted-all : {counts : List ℕ} {i n : ℕ} → Counted (bookIn s h) l counts i n → length l ≤ i → (r : ℕ) → r < 16 → getD counts r 0 ≡ length (asDerivation (bookIn s h) flags r l)
-  counted-all {counts} {i} {n} w q r k = w .is r k ∙ ap length (coming-all (bookIn s h) flags l r n (rw (w .at) at q))
+    pub counted-all : length l ≤ i → (r : ℕ) → r < 16 → getD counts r 0 ≡ length (asDerivation (bookIn s h) C r l)
+    counted-all q r k = w .is r k ∙ ap length (coming-all (bookIn s h) C l r n (rw (w .at) at q))
 
 -- ---- one step back
 
@@ -250,24 +222,19 @@ wrote-put d e p at n h k w =
     let z : at - n + length p ≡ at = omega arith in
     record { from = z; long = put-length w; room = put-from w ∙ ap (λ (m : ℕ). p ++ drop m d) z }
 
-module _ (s : List ℕ) (h : Header) (l : List ℤ) (i : ℕ) (c : Clause) (held : Held s h (numberIn s h l i) c) (w : Wanted) (d : List ℤ) where
-  pub stepped-wrote : (at n : ℕ) (e : List ℤ) → c .head ≡ w .relation → n ≡ 1 + c .variables → Wrote (take n (drop i l)) (w .at) d at e
-      → Stepped (bookIn s h) l i w d (record { relation = c .body; at = at }) e
-  stepped-wrote at n e q k p =
-      let z : n ≡ clauseHere (bookIn s h) l i .vars + 1 = omega (arith, vars-of s h (numberIn s h l i) c held) in
-      record {
-        wrote = λ _. (body-of s h (numberIn s h l i) c held, rw z at p);
-        other = λ m. absurd (m (head-of s h (numberIn s h l i) c held ∙ q));
-      }
+module _ {b : Book} {l : List ℤ} {i v head body : ℕ} (c : Cells b l i v head body) (w : Wanted) (d : List ℤ) where
+  pub stepped-wrote : (at : ℕ) (e : List ℤ) → head ≡ w .relation → Wrote (take (1 + v) (drop i l)) (w .at) d at e → Stepped b l i w d (record { relation = body; at = at }) e
+  stepped-wrote at e q p =
+      let z : 1 + v ≡ clauseHere b l i .vars + 1 = omega (arith, c .vars) in
+      record { wrote = λ _. (c .body-is, rw z at p); other = λ m. absurd (m (c .head-is ∙ q)) }
 
-  pub stepped-other : c .head ≢ w .relation → Stepped (bookIn s h) l i w d w d
-  stepped-other q = record { wrote = λ m. absurd (q (sym (head-of s h (numberIn s h l i) c held) ∙ m)); other = λ _. (refl, refl) }
+  pub stepped-other : head ≢ w .relation → Stepped b l i w d w d
+  stepped-other q = record { wrote = λ m. absurd (q (sym (c .head-is) ∙ m)); other = λ _. (refl, refl) }
 
-  -- what writing its numbers asks
-  pub step-fits : (z n : ℕ) → Here s h l z i → Due (bookIn s h) l i w d → c .head ≡ w .relation → n ≡ 1 + c .variables → (n ≤ w .at) × (w .at ≤ length d) × (i + n ≤ length l)
-  step-fits z n here due q k =
-      let v = vars-of s h (numberIn s h l i) c held in
-      (omega (arith, v, due .some (head-of s h (numberIn s h l i) c held ∙ q)), due .fits, omega (arith, v, here .whole))
+-- what writing its numbers asks
+pub step-fits : {s : List ℕ} {h : Header} {l : List ℤ} {i v head body z : ℕ} (c : Cells (bookIn s h) l i v head body) {w : Wanted} {d : List ℤ} → Here s h l z i → Due (bookIn s h) l i w d → head ≡ w .relation
+    → (1 + v ≤ w .at) × (w .at ≤ length d) × (i + (1 + v) ≤ length l)
+step-fits c here due q = (omega (arith, c .vars, due .some (c .head-is ∙ q)), due .fits, omega (arith, c .vars, here .whole))
 
 -- ---- a block's starts
 
@@ -293,35 +260,38 @@ pub kept-not : (marks : List ℕ) (k i : ℕ) → length marks ≡ 1024 → ((q 
 kept-not marks k i long n = record { long = long; own = λ q y. absurd (n q y); rest = λ _ _. refl }
 
 -- of the first k steps
-pub record Marking (b : Book) (z : ℕ) (l : List ℤ) (marks : List ℕ) (k : ℕ) : Type 0 where
+pub record Marking (b : Book) (z : ℕ) (l : List ℤ) (before marks : List ℕ) (k : ℕ) : Type 0 where
   pub long : length marks ≡ 1024
   pub few : k ≤ 500000
-  pub each : (q : ℕ) → q * 512 < k → getD marks q 0 ≡ start b z l z (q * 512)
+  pub each : (q : ℕ) → q * 512 < k → (getD marks q 0 ≡ start b z l z (q * 512)) × (start b z l z (q * 512) < length l)
+  pub rest : (q : ℕ) → k ≤ q * 512 → getD marks q 0 ≡ getD before q 0
 
-pub marking-first : (b : Book) (z : ℕ) (l : List ℤ) (marks : List ℕ) → length marks ≡ 1024 → Marking b z l marks 0
-marking-first b z l marks h = record { long = h; few = omega arith; each = λ q k. absurd (let w : ⊥ = omega arith in w) }
+pub marking-first : (b : Book) (z : ℕ) (l : List ℤ) (marks : List ℕ) → length marks ≡ 1024 → Marking b z l marks marks 0
+marking-first b z l marks h = record { long = h; few = omega arith; each = λ q k. absurd (let w : ⊥ = omega arith in w); rest = λ _ _. refl }
 
-module _ (s : List ℕ) (h : Header) (l : List ℤ) (z : ℕ) (t : Trace s h l z) {counts : List ℕ} {i k : ℕ} (c : Counted (bookIn s h) l counts i k) {marks : List ℕ} (w : Marking (bookIn s h) z l marks k) where
+module _ {s : List ℕ} {h : Header} {C : Control} {l : List ℤ} {z : ℕ} (t : Trace s h C l z) {counts : List ℕ} {i k : ℕ} (c : Counted (bookIn s h) C l counts i k)
+    {before marks : List ℕ} (w : Marking (bookIn s h) z l before marks k) where
   at : i ≡ start (bookIn s h) z l z k
-  at = c .at ∙ sym (trace-start s h l z t k)
+  at = c .at ∙ sym (trace-start t k)
 
-  pub marking-more : {e : List ℕ} → i < length l → Kept marks k i e → Marking (bookIn s h) z l e (k + 1)
+  pub marking-more : {e : List ℕ} → i < length l → Kept marks k i e → Marking (bookIn s h) z l before e (k + 1)
   marking-more {e} q y = record {
     long = y .long;
-    few = omega (arith, at, start-long (bookIn s h) z l z (size-some s h l z t) k, t .few);
+    few = omega (arith, at, start-long (bookIn s h) z l z (t .some) k, t .few);
     each = λ m x. each m x (ℕ-discrete (m * 512) k);
+    rest = λ m x. y .rest m (λ v. let u : ⊥ = omega arith in u) ∙ w .rest m (omega arith);
   }
     where
-      each : (m : ℕ) → m * 512 < k + 1 → Dec (m * 512 ≡ k) → getD e m 0 ≡ start (bookIn s h) z l z (m * 512)
-      each m x (yes v) = y .own m v ∙ rw v at
-      each m x (no v) = y .rest m v ∙ w .each m (omega arith)
+      each : (m : ℕ) → m * 512 < k + 1 → Dec (m * 512 ≡ k) → (getD e m 0 ≡ start (bookIn s h) z l z (m * 512)) × (start (bookIn s h) z l z (m * 512) < length l)
+      each m x (yes v) = (y .own m v ∙ rw v at, rw (v, ← at) q)
+      each m x (no v) = let (p, r) = w .each m (omega arith) in (y .rest m v ∙ p, r)
 
   pub marked-all : {m : ℕ} → length l ≤ i → k ≤ m * 512 → m * 512 < k + 512 → Marked (bookIn s h) z l marks m
   marked-all {m} q low high = record {
     long = w .long;
     few = omega (arith, w .few);
     each = λ x y. w .each x (omega arith);
-    all = omega (arith, at, start-far (bookIn s h) z l z (size-some s h l z t) k (m * 512 - k), ap (start (bookIn s h) z l z) same);
+    all = omega (arith, at, start-far (bookIn s h) z l z (t .some) k (m * 512 - k), ap (start (bookIn s h) z l z) same);
   }
     where
       same : k + (m * 512 - k) ≡ m * 512
@@ -329,61 +299,50 @@ module _ (s : List ℕ) (h : Header) (l : List ℤ) (z : ℕ) (t : Trace s h l z
 
 -- ---- a block
 
-head-below : (s : List ℕ) (h : Header) (k : ℕ) → read s ≡ Good h → k < h .count → clauseAt (bookIn s h) k .head .rel < 16
-head-below s h k good below =
-    let r = record-read s h good k below in
-    let w = held s h good k below (r .clause) (r .past) (r .reads) in
-    rw (head-of s h k (r .clause) w) (head-small s h k (r .clause) w good)
+module _ {s : List ℕ} {h : Header} {C : Control} {l : List ℤ} {z : ℕ} (t : Trace s h C l z) where
+  module _ (m i : ℕ) (block : List ℕ) (r : ℕ) (e : i ≡ start (bookIn s h) z l z (m * 512)) (f : Filled (bookIn s h) z l i block r) where
+    place : (k : ℕ) → start (bookIn s h) z l i k ≡ traceStart (bookIn s h) C l (m * 512 + k)
+    place k = ap (λ (x : ℕ). start (bookIn s h) z l x k) e ∙ sym (start-add (bookIn s h) z l z (m * 512) k) ∙ trace-start t (m * 512 + k)
 
-module _ (s : List ℕ) (h : Header) (l : List ℤ) (z : ℕ) (t : Trace s h l z) where
-  -- the k-th of a block's starts
-  pub block-place : (m i k : ℕ) (block : List ℕ) (r : Block) → i ≡ start (bookIn s h) z l z (m * 512) → Filled (bookIn s h) z l i block r → k < r .count
-      → (getD block k 0 ≡ traceStart (bookIn s h) flags l (m * 512 + k)) × (getD block k 0 < length l)
-  block-place m i k block r e f q =
-      let (p, y) = f .each k q in
-      (p ∙ ap (λ (x : ℕ). start (bookIn s h) z l x k) e ∙ sym (start-add (bookIn s h) z l z (m * 512) k) ∙ trace-start s h l z t (m * 512 + k), rw p y)
+    -- the k-th of a block's starts
+    pub block-place : (k : ℕ) → k < r → (getD block k 0 ≡ traceStart (bookIn s h) C l (m * 512 + k)) × (getD block k 0 < length l)
+    block-place k q = let (p, y) = f .each k q in (p ∙ place k, rw p y)
 
-  -- the walk back over the block begins
-  pub block-start : (m i : ℕ) (block : List ℕ) (r : Block) (w : Wanted) (d : List ℤ) → i ≡ start (bookIn s h) z l z (m * 512) → Filled (bookIn s h) z l i block r
-      → Left (bookIn s h) l (m * 512 + 512) w d → Gone (bookIn s h) l (m * 512 + 512) w d (m * 512 + r .count) w d
-  block-start m i block r w d e f left = gone-start (bookIn s h) l (every-of s h l z t) (m * 512) (r .count) w d (f .few) full up left
-    where
-      place : (k : ℕ) → start (bookIn s h) z l i k ≡ traceStart (bookIn s h) flags l (m * 512 + k)
-      place k = ap (λ (x : ℕ). start (bookIn s h) z l x k) e ∙ sym (start-add (bookIn s h) z l z (m * 512) k) ∙ trace-start s h l z t (m * 512 + k)
+    -- the walk back over the block begins
+    pub block-start : (w : Wanted) (d : List ℤ) → Left (bookIn s h) C l (m * 512 + 512) w d → Gone (bookIn s h) C l (m * 512 + 512) w d (m * 512 + r) w d
+    block-start w d left = gone-start (bookIn s h) C l (every-of t) (m * 512) r w d (f .few) full up left
+      where
+        full : r < 512 → length l ≤ traceStart (bookIn s h) C l (m * 512 + r)
+        full k = omega (arith, f .full k, place r)
 
-      full : r .count < 512 → length l ≤ traceStart (bookIn s h) flags l (m * 512 + r .count)
-      full k = omega (arith, f .full k, f .next, place (r .count))
+        same : r + (512 - r) ≡ 512
+        same = omega (arith, f .few)
 
-      same : r .count + (512 - r .count) ≡ 512
-      same = omega (arith, f .few)
+        up : traceStart (bookIn s h) C l (m * 512 + r) ≤ traceStart (bookIn s h) C l (m * 512 + 512)
+        up = omega (arith, start-far (bookIn s h) z l i (t .some) r (512 - r), ap (start (bookIn s h) z l i) same, place r, place 512)
 
-      up : traceStart (bookIn s h) flags l (m * 512 + r .count) ≤ traceStart (bookIn s h) flags l (m * 512 + 512)
-      up = omega (arith, start-far (bookIn s h) z l i (size-some s h l z t) (r .count) (512 - r .count), ap (start (bookIn s h) z l i) same, place (r .count), place 512)
-
-  module _ (j i : ℕ) (e : i ≡ traceStart (bookIn s h) flags l j) (q : i < length l) (w : Wanted) (d : List ℤ) (left : Left (bookIn s h) l (j + 1) w d) where
-    at-step : traceStart (bookIn s h) flags l j < length l
+  module _ {rows : List (List ℕ)} (table : Tabled s h rows) (j i : ℕ) (e : i ≡ traceStart (bookIn s h) C l j) (q : i < length l) (w : Wanted) (d : List ℤ) (left : Left (bookIn s h) C l (j + 1) w d) where
+    at-step : traceStart (bookIn s h) C l j < length l
     at-step = rw e at q
 
-    small : clauseHere (bookIn s h) l (traceStart (bookIn s h) flags l j) .head .rel < 16
-    small = head-below s h _ (t .walk .good) (omega (arith, every-of s h l z t j at-step .there, count-is s h (t .walk .good)))
+    small : clauseHere (bookIn s h) l (traceStart (bookIn s h) C l j) .head .rel < 16
+    small = let c = cells-at table (here-of t i j e q) in rw (← e) (omega (arith, c .head-is, c .head-small))
 
     pub back-asks : Here s h l z i × Due (bookIn s h) l i w d
-    back-asks = (here-of s h l z t i j e q, rw e (due-of (bookIn s h) l (every-of s h l z t) j at-step small w d left))
+    back-asks = (here-of t i j e q, rw e (due-of (bookIn s h) C l (every-of t) j at-step small w d left))
 
-    pub back-more : {r : Wanted} {f : List ℤ} → Stepped (bookIn s h) l i w d r f → Gone (bookIn s h) l (j + 1) w d j r f
-    back-more y = gone-step (bookIn s h) l (every-of s h l z t) j at-step small w d left (rw e at y)
+    pub back-more : {r : Wanted} {f : List ℤ} → Stepped (bookIn s h) l i w d r f → Gone (bookIn s h) C l (j + 1) w d j r f
+    back-more y = gone-step (bookIn s h) C l (every-of t) j at-step small w d left (rw e at y)
 
-  -- the walk back over all begins
-  pub left-first : (marks : List ℕ) (m r n : ℕ) (d : List ℤ) → Marked (bookIn s h) z l marks m → r < 16 → n ≡ length (asDerivation (bookIn s h) flags r l) → n ≤ length d
-      → Left (bookIn s h) l (m * 512) (record { relation = r; at = n }) d
-  left-first marks m r n d w small e k =
-      let y : told r ≡ some r = told-some r (λ q. let x : ⊥ = omega arith in x) in
-      record { at = rw (y, coming-all (bookIn s h) flags l r (m * 512) (rw (trace-start s h l z t (m * 512)) at (w .all))) e; fits = k }
+  module _ (marks : List ℕ) (m r n : ℕ) (d : List ℤ) (w : Marked (bookIn s h) z l marks m) (small : r < 16) where
+    all-coming : coming (bookIn s h) C l (told r) (m * 512) ≡ asDerivation (bookIn s h) C r l
+    all-coming = rw (told-small r small) (coming-all (bookIn s h) C l r (m * 512) (rw (trace-start t (m * 512)) at (w .all)))
 
-  -- and ends
-  pub all-written : (marks : List ℕ) (m r n : ℕ) (d : List ℤ) (v : Wanted) (e : List ℤ) → Marked (bookIn s h) z l marks m → r < 16
-      → Gone (bookIn s h) l (m * 512) (record { relation = r; at = n }) d 0 v e → e ≡ asDerivation (bookIn s h) flags r l ++ drop n d
-  unfolding whole
-  all-written marks m r n d v e w small g =
-      let y : told r ≡ some r = told-some r (λ q. let x : ⊥ = omega arith in x) in
-      gone-end (bookIn s h) l (m * 512) _ d v e g ∙ rw (y, coming-all (bookIn s h) flags l r (m * 512) (rw (trace-start s h l z t (m * 512)) at (w .all)))
+    -- the walk back over all begins
+    pub left-first : n ≡ length (asDerivation (bookIn s h) C r l) → n ≤ length d → Left (bookIn s h) C l (m * 512) (record { relation = r; at = n }) d
+    left-first e k = record { at = rw all-coming e; fits = k }
+
+    -- and ends
+    pub all-written : {j : ℕ} {v : Wanted} {e : List ℤ} → Gone (bookIn s h) C l (m * 512) (record { relation = r; at = n }) d j v e → j ≡ 0 → e ≡ asDerivation (bookIn s h) C r l ++ drop n d
+    unfolding whole
+    all-written g z = gone-end g z ∙ ap (λ (x : List ℤ). x ++ drop n d) all-coming

@@ -8,7 +8,7 @@ use lib.ListN.{length, take, drop}
 use lib.Dec.{eqb}
 use lib.IntN.{ℤ}
 use Rattle.meaning.specs.Book.{Book}
-use Rattle.meaning.specs.State.{flags}
+use Rattle.meaning.specs.State.{Control}
 use Rattle.lists.specs.Places.{clauseHere}
 use Rattle.lists.specs.Back.{relationOf, coming}
 use Rattle.cursor.specs.Steps.{pick}
@@ -36,16 +36,16 @@ pub record Stepped (b : Book) (l : List ℤ) (i : ℕ) (w : Wanted) (d : List �
   pub other : clauseHere b l i .head .rel ≢ w .relation → (r ≡ w) × (e ≡ d)
 
 -- before step j, w is wanted and `at` numbers are still to be written
-pub record Left (b : Book) (l : List ℤ) (j : ℕ) (w : Wanted) (d : List ℤ) : Type 0 where
-  pub at : w .at ≡ length (coming b flags l (told (w .relation)) j)
+pub record Left (b : Book) (C : Control) (l : List ℤ) (j : ℕ) (w : Wanted) (d : List ℤ) : Type 0 where
+  pub at : w .at ≡ length (coming b C l (told (w .relation)) j)
   pub fits : w .at ≤ length d
 
 -- what the room is to have in the end
-unfoldable pub whole : Book → List ℤ → ℕ → Wanted → List ℤ → List ℤ
-whole b l j w d = coming b flags l (told (w .relation)) j ++ drop (w .at) d
+unfoldable pub whole : Book → Control → List ℤ → ℕ → Wanted → List ℤ → List ℤ
+whole b C l j w d = coming b C l (told (w .relation)) j ++ drop (w .at) d
 
 -- from step j back to step k: w and the room d have become r and e
-pub record Gone (b : Book) (l : List ℤ) (j : ℕ) (w : Wanted) (d : List ℤ) (k : ℕ) (r : Wanted) (e : List ℤ) : Type 0 where
-  pub left : Left b l k r e
-  pub same : whole b l k r e ≡ whole b l j w d
+pub record Gone (b : Book) (C : Control) (l : List ℤ) (j : ℕ) (w : Wanted) (d : List ℤ) (k : ℕ) (r : Wanted) (e : List ℤ) : Type 0 where
+  pub left : Left b C l k r e
+  pub same : whole b C l k r e ≡ whole b C l j w d
   pub long : length e ≡ length d

@@ -1,5 +1,6 @@
 pub mod Read
 pub mod Span
+pub mod Lent
 pub mod Meaning
 pub mod Answer
 pub mod OnBook

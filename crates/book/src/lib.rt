@@ -2,8 +2,9 @@
 ghost use mathlib.Core.Path.{_≡_};
 ghost use Prim.Native.Nat.{_+_, _*_, _≤_, _<_};
 ghost use lib.ListN.{length, getD};
-ghost use Rattle.book.specs.Read.{topArity, arityAt, aritiesAt, recordAt, clausesAt, headed, sized, trailer, read, entryAt, constraintOf};
+ghost use Rattle.book.specs.Read.{topArity, arityAt, aritiesAt, recordAt, clausesAt, headed, sized, trailer, read, entryAt};
 ghost use Rattle.book.specs.Span.{absent, spanAt, spanOf};
+ghost use Rattle.book.specs.Lent.{lent, handed};
 ghost use Rattle.whole.specs.Bytes.{u16At};
 ghost use Rattle.book.specs.Answer.{Answers};
 ghost use Rattle.book.specs.OnBook.{refusedBy};
@@ -324,7 +325,7 @@ pub fn constraint_span(book: &[u8], k: usize) -> Span
 
 // The constraint of clause k, as the very part of the book that holds it; an empty part for a refused book or an absent clause.
 pub fn constraint_of(book: &[u8], k: usize) -> &[u8]
-    ensures { λ r. ⌜ now r ≡ constraintOf (now (book .entry)) k ⌝ }
+    ensures { λ r. ⌜ lent r ≡ handed (lent (book .entry)) k ⌝ }
 {
     let p = constraint_span(book, k);
     let a = p.start;

@@ -1,6 +1,7 @@
 -- What the programs' functions compute beside what they read and write: checksums, and lists that go on over again.
 use Prim.Native.Nat.{ℕ, zero, suc, _+_, _*_, _-_, _%_, _≤_, _<_}
 use mathlib.Core.Path.{_≡_}
+use mathlib.Core.Logic.{_⊎_}
 use mathlib.Core.List.{List, [], _∷_}
 use lib.ListN.{getD, set}
 use lib.IntN.{ℤ, pos}
@@ -13,6 +14,10 @@ sumOn n b = (n * 257 + b) % 65521
 unfoldable pub sumFrom : ℕ → List ℕ → ℕ
 sumFrom n [] = n
 sumFrom n (b ∷ l) = sumFrom (sumOn n b) l
+
+-- a length of the input, or the one that stands for its end
+abbrev pub IsLength : ℕ → Type 0
+IsLength r = (r < 4294967296) ⊎ (r ≡ 18446744073709551615)
 
 -- n numbers from place `at` on end at r, or where a room of this length ends
 pub record Ends (at n long r : ℕ) : Type 0 where

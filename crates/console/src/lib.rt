@@ -1,12 +1,12 @@
 // What the programs read from standard input and write to standard output.
-ghost use Prim.Native.Nat.{_≤_, _<_};
+ghost use Prim.Native.Nat.{_+_, _*_, _≤_, _<_};
 ghost use mathlib.Core.Path.{_≡_};
-ghost use lib.ListN.{length};
-ghost use Rattle.console.specs.Console.{sumOn, sumFrom, Ends, again};
+ghost use lib.ListN.{length, drop};
+ghost use Rattle.console.specs.Console.{sumOn, sumFrom, IsLength, Ends, again};
 use libc::STDIN_FILENO;
 use libc::STDOUT_FILENO;
 
-// ---- to standard output
+// ---- to standard output: these give nothing back, and what is lent to them stays as it is
 
 pub fn write(text: &[u8]) {
     io::write_all(STDOUT_FILENO, text);
@@ -53,19 +53,24 @@ pub fn print_sum(part: &[u8]) {
 // ---- from standard input: bytes, and numbers of four bytes, little-endian
 
 // Whether the whole room could be filled.
-pub fn filled(room: &mut [u8]) -> bool {
+pub fn filled(room: &mut [u8]) -> bool
+    ensures { λ r. ⌜ length (now (room .exit)) ≡ length (now (room .entry)) ⌝ }
+{
     io::read_full(STDIN_FILENO, room) == room.len()
 }
 
-// Puts n bytes into the front of the room.
+// Puts n bytes into the front of the room; the rest keeps its bytes.
 pub fn put_bytes(room: &mut [u8], n: usize)
-    requires { do ⌜ n ≤ (← ⟦room.len()⟧) ⌝ }
+    requires { ⌜ n ≤ length (now room) ⌝ }
+    ensures { λ r. ⌜ drop n (now (room .exit)) ≡ drop n (now (room .entry)) ⌝ }
 {
     io::read_full(STDIN_FILENO, &mut room[..n]);
 }
 
 // The next length. At the end of the input it is one that no room has.
-pub fn next_length() -> usize {
+pub fn next_length() -> usize
+    ensures { λ r. ⌜ IsLength r ⌝ }
+{
     let mut bytes = [0u8; 4];
     if filled(&mut bytes) {
         return whole::u32_at(&bytes, 0) as usize;
@@ -82,10 +87,11 @@ pub fn next() -> usize
     whole::u32_at(&bytes, 0) as usize
 }
 
-// A number of eight bytes.
-pub fn next_long() -> usize {
-    let low = next();
-    let high = next();
+// A number of eight bytes, out of its halves.
+pub fn long(low: usize, high: usize) -> usize
+    requires { ⌜ (low < 4294967296) × (high < 4294967296) ⌝ }
+    ensures { λ r. ⌜ r ≡ low + high * 4294967296 ⌝ }
+{
     low + high * 4294967296
 }
 

@@ -97,7 +97,7 @@ fn fill_and_run(
     requires { do ⌜ k ≤ (← ⟦room.len()⟧) ⌝ }
 {
     console::put_bytes(book, n);
-    let relation = console::next_long();
+    let relation = console::long(console::next(), console::next());
     let count = console::next();
     let v = console::put_written(values, 0, count);
     let m = console::put_list(list);

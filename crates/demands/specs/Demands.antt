@@ -5,97 +5,75 @@
 -- `Bytes s`: every number of s is below 256, as in whatever a program lends as bytes.
 use Prim.Native.Nat.{ℕ, _<_, _≤_, _^_}
 use mathlib.Core.Path.{_≡_}
-use mathlib.Core.Logic.{_↔_}
+use mathlib.Core.Logic.{_↔_, _⊎_}
 use mathlib.Core.Bool.{true, false}
 use mathlib.Core.Option.{none, some}
-use mathlib.Core.List.{List, [], _++_}
+use mathlib.Core.List.{List, [], _∷_, _++_}
 use lib.ListN.{length, getD, take, drop}
 use lib.IntN.{ℤ}
-use Rattle.cursor.specs.declared.Clause as code
+use Rattle.cursor.specs.declared.Clause as clauses
+use Rattle.reply.specs.declared.Answer as code
 pub mod Words
 use Words.*
 
 -- ==== Demand 1: every book, list and model, of any content, gets an answer by number
 
--- A refused book, with number n at place p, ends every call with that refusal; a room is as it was, and the part handed out is empty.
-pub record BookRefused (s : List ℕ) (n p : ℕ) : Type 0 where
-  -- the number is one of 1 to 8: never 0, and never that of a refusal for another cause
-  pub number : (1 ≤ n) × (n ≤ 8)
-  pub reading : (x : Reading) → ReadBook s x → x ≡ readings.Refused (refuse n p)
-  pub part : (k : ℕ) (x : List ℕ) → ConstraintOf s k x → x ≡ []
-  pub derivation : (l : List ℤ) (g : Fact) (x : Answer) → CheckDerivation s l g x → x ≡ answers.Refused (refuse n p)
-  pub trace : (l : List ℤ) (g : Fact) (x : Answer) → CheckTrace s l g x → x ≡ answers.Refused (refuse n p)
-  -- the count is 0, and so are clause and values (`plain`)
-  pub model : (m : List ℕ) (x : Reply) → CheckModel s m x → told x ≡ plain n p 0
-  pub to-trace : (l d e : List ℤ) (g : Fact) (x : Converted) → ToTrace s l g d x e → (x ≡ conversions.Refused (refuse n p)) × (e ≡ d)
-  pub to-derivation : (l d e : List ℤ) (g : Fact) (x : Converted) → ToDerivation s l g d x e → (x ≡ conversions.Refused (refuse n p)) × (e ≡ d)
-  pub print : (d e : List ℕ) (x : Printed) → Print s d x e → (x ≡ printings.Refused (refuse n p)) × (e ≡ d)
+-- What holds of every call, on any list of numbers s lent as a book; no contract of a call asks anything of the caller. First, of a reply x and a room e
+-- that keep its promise, where the room was d:
+pub record ByNumber (c : Call) (s : List ℕ) (d e : List (c .Item)) (x : c .Reply) : Type 0 where
+  -- a refused book ends the call with the book's own refusal
+  pub book-refused : (n p : ℕ) → Refuses s n p → c .answer x ≡ refused n p
+  -- the number alone tells success: it is 0 there and nowhere else
+  pub success : number (c .answer x) ≡ 0 → (n : ℕ) × (c .answer x ≡ done n)
+  -- which numbers there are: 0, the book's, and the call's own
+  pub which : OneOf (0 ∷ inBook ++ c .numbers) (number (c .answer x))
+  -- a refusal leaves the room as it was; success writes its front, and the rest keeps its numbers
+  pub refused-room : (n p : ℕ) → c .answer x ≡ refused n p → e ≡ d
+  pub done-room : (n : ℕ) → c .answer x ≡ done n → Front n d e
+
+pub record Replies (c : Call) (s : List ℕ) : Type 0 where
+  -- some reply and room keep its promise, and no others do
+  pub some : (d : List (c .Item)) → (x : c .Reply) × (e : List (c .Item)) × c .Keeps s d x e
+  pub one : (d e f : List (c .Item)) (x y : c .Reply) → c .Keeps s d x e → c .Keeps s d y f → (x ≡ y) × (e ≡ f)
+  pub by-number : (d e : List (c .Item)) (x : c .Reply) → c .Keeps s d x e → ByNumber c s d e x
 
 pub record Demand1 (s : List ℕ) : Type 0 where
-  -- ---- One reply ------------------------------------------------------------------------------------------
-  -- No contract of a call asks anything of the caller, so each replies to whatever it is lent; and no second reply keeps the same
-  -- promise, nor leaves another room.
-  pub one-reading : (x y : Reading) → ReadBook s x → ReadBook s y → x ≡ y
-  pub one-part : (k : ℕ) (x y : List ℕ) → ConstraintOf s k x → ConstraintOf s k y → x ≡ y
-  pub one-derivation-answer : (l : List ℤ) (g : Fact) (x y : Answer) → CheckDerivation s l g x → CheckDerivation s l g y → x ≡ y
-  pub one-trace-answer : (l : List ℤ) (g : Fact) (x y : Answer) → CheckTrace s l g x → CheckTrace s l g y → x ≡ y
-  pub one-model-reply : (m : List ℕ) (x y : Reply) → CheckModel s m x → CheckModel s m y → x ≡ y
-  pub one-trace-written : (l d e f : List ℤ) (g : Fact) (x y : Converted) → ToTrace s l g d x e → ToTrace s l g d y f → (x ≡ y) × (e ≡ f)
-  pub one-derivation-written : (l d e f : List ℤ) (g : Fact) (x y : Converted) → ToDerivation s l g d x e → ToDerivation s l g d y f → (x ≡ y) × (e ≡ f)
-  pub one-printing : (d e f : List ℕ) (x y : Printed) → Print s d x e → Print s d y f → (x ≡ y) × (e ≡ f)
-  -- `book::record`, by which the other calls read clause k of a book that they have accepted
-  pub one-record : (h : Header) (k : ℕ) (x y : code.Clause) → Held s h k x → Held s h k y → x ≡ y
-  -- ---- A refused book -------------------------------------------------------------------------------------
-  pub book-refused : (n p : ℕ) → Refuses s n p → BookRefused s n p
-  -- ---- By number ------------------------------------------------------------------------------------------
-  -- The number alone tells acceptance: it is 0 there and nowhere else. For the model check, see Demand 2.
-  pub zero-derivation : (l : List ℤ) (g : Fact) (x : Answer) → CheckDerivation s l g x → checkNumber x ≡ 0 → x ≡ Accepted
-  pub zero-trace : (l : List ℤ) (g : Fact) (x : Answer) → CheckTrace s l g x → checkNumber x ≡ 0 → x ≡ Accepted
-  pub zero-to-trace : (l d e : List ℤ) (g : Fact) (x : Converted) → ToTrace s l g d x e → conversionNumber x e ≡ 0 → (n : ℕ) × (x ≡ Wrote n)
-  pub zero-to-derivation : (l d e : List ℤ) (g : Fact) (x : Converted) → ToDerivation s l g d x e → conversionNumber x e ≡ 0 → (n : ℕ) × (x ≡ Wrote n)
-  pub zero-print : (d e : List ℕ) (x : Printed) → Print s d x e → printNumber x ≡ 0 → (n : ℕ) × (x ≡ Written n)
-  -- ---- Rooms ----------------------------------------------------------------------------------------------
-  -- A refusal leaves the room as it was; success writes its front, and the rest keeps its numbers.
-  pub to-trace-refused : (l d e : List ℤ) (g : Fact) (r : Refusal) → ToTrace s l g d (conversions.Refused r) e → e ≡ d
-  pub to-trace-wrote : (l d e : List ℤ) (g : Fact) (n : ℕ) → ToTrace s l g d (Wrote n) e → Front n d e
-  pub to-derivation-refused : (l d e : List ℤ) (g : Fact) (r : Refusal) → ToDerivation s l g d (conversions.Refused r) e → e ≡ d
-  pub to-derivation-wrote : (l d e : List ℤ) (g : Fact) (n : ℕ) → ToDerivation s l g d (Wrote n) e → Front n d e
-  pub print-refused : (d e : List ℕ) (r : Refusal) → Print s d (printings.Refused r) e → e ≡ d
-  pub print-short : (d e : List ℕ) (n : ℕ) → Print s d (Short n) e → e ≡ d
-  pub print-written : (d e : List ℕ) (n : ℕ) → Print s d (Written n) e → Front n d e
+  pub reading : Replies readBook s
+  pub derivation : (l : List ℤ) (g : Fact) → Replies (checkDerivation l g) s
+  pub trace : (l : List ℤ) (g : Fact) → Replies (checkTrace l g) s
+  pub model : (m : List ℕ) → Replies (checkModel m) s
+  pub to-trace : (l : List ℤ) (g : Fact) → Replies (toTrace l g) s
+  pub to-derivation : (l : List ℤ) (g : Fact) → Replies (toDerivation l g) s
+  pub printing : Replies print s
   -- ---- Parts ----------------------------------------------------------------------------------------------
-  -- What is handed out for clause k is empty if there is no such clause, and not empty if there is.
+  -- `book::constraint_of` hands out a part of the book: one part, empty for a refused book or an absent clause, and not empty for one that is there
+  pub some-part : (k : ℕ) → (x : List ℕ) × ConstraintOf s k x
+  pub one-part : (k : ℕ) (x y : List ℕ) → ConstraintOf s k x → ConstraintOf s k y → x ≡ y
+  pub part-refused : (n p : ℕ) → Refuses s n p → (k : ℕ) (x : List ℕ) → ConstraintOf s k x → x ≡ []
   pub part-absent : (b : Book) → Holds s b → (k : ℕ) (x : List ℕ) → ConstraintOf s k x → length (b .clauses) ≤ k → x ≡ []
   pub part-present : Bytes s → (b : Book) → Holds s b → (k : ℕ) (x : List ℕ) → ConstraintOf s k x → k < length (b .clauses) → 0 < length x
+  -- `book::record`, by which the other calls read clause k of a book that they have accepted
+  pub one-record : (h : Header) (k : ℕ) (x y : clauses.Clause) → Held s h k x → Held s h k y → x ≡ y
 
 -- ==== Demand 1 for C: what each function returns and writes is settled, and is the reply of the call that it stands for
 
+pub record RepliesInC (c : Call) (s : List ℕ) : Type 0 where
+  pub some : (d : List (c .Item)) → (o : c .Out) × (e : List (c .Item)) × c .KeepsInC s d o e
+  pub one : (d e f : List (c .Item)) (o q : c .Out) → c .KeepsInC s d o e → c .KeepsInC s d q f → (o ≡ q) × (e ≡ f)
+  pub same : (d e f : List (c .Item)) (o : c .Out) (x : c .Reply) → c .KeepsInC s d o f → c .Keeps s d x e → (o ≡ c .inC x) × (f ≡ e)
+
 pub record InC (s : List ℕ) : Type 0 where
-  -- ---- One outcome -----------------------------------------------------------------------------------
-  pub one-book : (r q r′ q′ : ℕ) → ReadsBook s r q → ReadsBook s r′ q′ → (r ≡ r′) × (q ≡ q′)
+  pub book : RepliesInC readBook s
+  pub derivation : (l : List ℤ) (g : Fact) → RepliesInC (checkDerivation l g) s
+  pub trace : (l : List ℤ) (g : Fact) → RepliesInC (checkTrace l g) s
+  pub model : (m : List ℕ) → RepliesInC (checkModel m) s
+  pub to-trace : (l : List ℤ) (g : Fact) → RepliesInC (toTrace l g) s
+  pub to-derivation : (l : List ℤ) (g : Fact) → RepliesInC (toDerivation l g) s
+  pub text : RepliesInC print s
+  -- ruahmitz_constraint: the part of r bytes from byte q on is the one that `book::constraint_of` hands out
+  pub some-constraint : (k : ℕ) → (r q : ℕ) × Hands s k r q
   pub one-constraint : (k r q r′ q′ : ℕ) → Hands s k r q → Hands s k r′ q′ → (r ≡ r′) × (q ≡ q′)
-  pub one-derivation : (l v : List ℤ) (g r q r′ q′ : ℕ) → ChecksDerivation s l g v r q → ChecksDerivation s l g v r′ q′ → (r ≡ r′) × (q ≡ q′)
-  pub one-trace : (l v : List ℤ) (g r q r′ q′ : ℕ) → ChecksTrace s l g v r q → ChecksTrace s l g v r′ q′ → (r ≡ r′) × (q ≡ q′)
-  pub one-model : (m : List ℕ) (r q n k r′ q′ n′ k′ : ℕ) (v v′ : List ℤ) → ChecksModel s m r q n k v → ChecksModel s m r′ q′ n′ k′ v′
-      → (r ≡ r′) × (q ≡ q′) × (n ≡ n′) × (k ≡ k′) × (v ≡ v′)
-  pub one-to-trace : (l v d e e′ : List ℤ) (g r q r′ q′ : ℕ) → GivesTrace s l g v d r q e → GivesTrace s l g v d r′ q′ e′ → (r ≡ r′) × (q ≡ q′) × (e ≡ e′)
-  pub one-to-derivation : (l v d e e′ : List ℤ) (g r q r′ q′ : ℕ) → GivesDerivation s l g v d r q e → GivesDerivation s l g v d r′ q′ e′
-      → (r ≡ r′) × (q ≡ q′) × (e ≡ e′)
-  pub one-text : (d e e′ : List ℕ) (r q r′ q′ : ℕ) → PrintsText s d r q e → PrintsText s d r′ q′ e′ → (r ≡ r′) × (q ≡ q′) × (e ≡ e′)
-  -- ---- The same reply ---------------------------------------------------------------------------------
-  pub same-book : (r q : ℕ) (x : Reading) → ReadsBook s r q → ReadBook s x → (r ≡ bookNumber s x) × (q ≡ bookPlace s x)
   pub same-constraint : (k r q : ℕ) (x : List ℕ) → Hands s k r q → ConstraintOf s k x → take r (drop q s) ≡ x
-  pub same-derivation : (l : List ℤ) (g : Fact) (r q : ℕ) (x : Answer) → ChecksDerivation s l (g .rel) (g .vals) r q → CheckDerivation s l g x
-      → (r ≡ checkNumber x) × (q ≡ checkPlace x)
-  pub same-trace : (l : List ℤ) (g : Fact) (r q : ℕ) (x : Answer) → ChecksTrace s l (g .rel) (g .vals) r q → CheckTrace s l g x
-      → (r ≡ checkNumber x) × (q ≡ checkPlace x)
-  pub same-model : (m : List ℕ) (r q n k : ℕ) (v : List ℤ) (x : Reply) → ChecksModel s m r q n k v → CheckModel s m x
-      → (r ≡ x .number) × (q ≡ x .place) × (n ≡ x .count) × (k ≡ x .clause) × (v ≡ x .values)
-  pub same-to-trace : (l d e f : List ℤ) (g : Fact) (r q : ℕ) (x : Converted) → GivesTrace s l (g .rel) (g .vals) d r q f → ToTrace s l g d x e
-      → (r ≡ conversionNumber x e) × (q ≡ conversionPlace x e) × (f ≡ e)
-  pub same-to-derivation : (l d e f : List ℤ) (g : Fact) (r q : ℕ) (x : Converted) → GivesDerivation s l (g .rel) (g .vals) d r q f → ToDerivation s l g d x e
-      → (r ≡ conversionNumber x e) × (q ≡ conversionPlace x e) × (f ≡ e)
-  pub same-text : (d e f : List ℕ) (r q : ℕ) (x : Printed) → PrintsText s d r q f → Print s d x e → (r ≡ printNumber x) × (q ≡ printPlace x) × (f ≡ e)
 
 -- ==== Demand 2: the calls accept exactly what document 01's meaning of a clause allows, and print that translation
 
@@ -103,7 +81,7 @@ pub record Demand2 (s : List ℕ) : Type 0 where
   -- ---- The book -------------------------------------------------------------------------------------------
   -- it is accepted exactly when it is the writing of a book within the limits, of at most 60,000 bytes
   pub read-exactly : (x : Reading) → ReadBook s x
-      → ((h : Header) × (x ≡ readings.Good h)) ↔ ((b : Book) × (encode b ≡ s) × Limits b × (length s ≤ 60000))
+      → ((h : Header) × (x ≡ Good h)) ↔ ((b : Book) × (encode b ≡ s) × Limits b × (length s ≤ 60000))
   -- and that is the book that the other calls speak of
   pub accepts-exactly : (b : Book) → Holds s b ↔ ((encode b ≡ s) × Limits b × (length s ≤ 60000))
   -- no two byte strings are one book
@@ -116,11 +94,11 @@ pub record Demand2 (s : List ℕ) : Type 0 where
   -- ---- Derivations and traces -----------------------------------------------------------------------------
   -- `Asked`: the goal fits the book, and the list has 1 to 1,000,000 numbers.
   -- accepted exactly when the list is the numbers of a derivation d of the goal in the book that the bytes hold
-  pub derivation-exact : (l : List ℤ) (g : Fact) (x : Answer) → CheckDerivation s l g x
-      → (x ≡ Accepted) ↔ ((b : Book) × Holds s b × Asked b (g .rel) (g .vals) l × (d : List Step) × (numbers d ≡ l) × Derives b d g)
+  pub derivation-exact : (l : List ℤ) (g : Fact) (x : code.Answer) → CheckDerivation s l g x
+      → (x ≡ Done 0) ↔ ((b : Book) × Holds s b × Asked b (g .rel) (g .vals) l × (d : List Step) × (numbers d ≡ l) × Derives b d g)
   -- accepted exactly when the list is the numbers of a trace, its first state σ and its moves ms, that reaches the goal there
-  pub trace-exact : (l : List ℤ) (g : Fact) (x : Answer) → CheckTrace s l g x
-      → (x ≡ Accepted) ↔ ((b : Book) × Holds s b × Asked b (g .rel) (g .vals) l
+  pub trace-exact : (l : List ℤ) (g : Fact) (x : code.Answer) → CheckTrace s l g x
+      → (x ≡ Done 0) ↔ ((b : Book) × Holds s b × Asked b (g .rel) (g .vals) l
       × (σ : State flags) × (ms : List (Move b (Flagged b))) × (traceNumbers b flags σ ms ≡ l) × Reaches b (Flagged b) σ ms g)
   -- each of its steps is document 01's, as a relation of two states (`StepsTo`): an instance whose body is met; afterwards the head's flag is set, its
   -- places are its values, and all else is as before
@@ -133,18 +111,31 @@ pub record Demand2 (s : List ℕ) : Type 0 where
   -- ---- Models ---------------------------------------------------------------------------------------------
   -- accepted exactly when the bytes are the writing of one constraint for each relation, they are a model, and there are at most a million assignments
   pub model-exact : (m : List ℕ) → Bytes m → (x : Reply) → CheckModel s m x
-      → (x .number ≡ 0) ↔ ((b : Book) × Holds s b × (ts : List Constraint) × Fit (b .arities) ts × (m ≡ spell constraintBytes ts) × Model b ts × (total b ≤ 1000000))
+      → (numberOf (told x) ≡ 0) ↔ ((b : Book) × Holds s b × (ts : List Constraint) × Spells b ts m × Model b ts × (total b ≤ 1000000))
   -- then the count is that of all assignments: for each clause, (hi − lo + 1) to the power V
-  pub all-counted : (m : List ℕ) (x : Reply) → CheckModel s m x → (b : Book) → Holds s b → x .number ≡ 0 → told x ≡ plain 0 0 (total b)
+  pub all-counted : (m : List ℕ) (x : Reply) → CheckModel s m x → (b : Book) → Holds s b → numberOf (told x) ≡ 0 → told x ≡ plain ok (total b)
   pub clause-count : (b : Book) (c : Clause) → count (variableWindow b c) (c .vars) ≡ width (record { lo = b .lo; hi = b .hi }) ^ c .vars
   -- 25 names the first broken instance t, and the count is its position in document 01's order (`brokenAt`)
-  pub first-broken : (m : List ℕ) → Bytes m → (x : Reply) → CheckModel s m x → (b : Book) → Holds s b → x .number ≡ 25
-      → (ts : List Constraint) × (t : Step) × (m ≡ spell constraintBytes ts) × FirstBroken b ts t × (told x ≡ brokenAt b t)
+  pub first-broken : (m : List ℕ) → Bytes m → (x : Reply) → CheckModel s m x → (b : Book) → Holds s b → numberOf (told x) ≡ 25
+      → (ts : List Constraint) × (t : Step) × Spells b ts m × FirstBroken b ts t × (told x ≡ brokenAt b t)
+  -- the other refusals, in order: 21 or 22 for bytes that are no such writing; then 23 at the first byte of the query's constraint, if that is true; 24;
+  -- and 25, if some instance is broken
+  pub model-unread : (m : List ℕ) → Bytes m → (x : Reply) → CheckModel s m x → (b : Book) → Holds s b → ¬ ((ts : List Constraint) × Spells b ts m)
+      → (numberOf (told x) ≡ 21) ⊎ (numberOf (told x) ≡ 22)
+  pub model-query : (m : List ℕ) (x : Reply) → CheckModel s m x → (b : Book) → Holds s b → (ts : List Constraint) → Spells b ts m → Satisfies ts (query b)
+      → told x ≡ plain (refused 23 (length (spell constraintBytes (take (b .query) ts)))) 0
+  pub model-many : (m : List ℕ) (x : Reply) → CheckModel s m x → (b : Book) → Holds s b → (ts : List Constraint) → Spells b ts m → ¬ Satisfies ts (query b)
+      → 1000000 < total b → told x ≡ plain (refused 24 0) 0
+  pub model-broken : (m : List ℕ) (x : Reply) → CheckModel s m x → (b : Book) → Holds s b → (ts : List Constraint) → Spells b ts m → ¬ Satisfies ts (query b)
+      → total b ≤ 1000000 → (t : Step) → Broken b ts t → numberOf (told x) ≡ 25
+  -- in any reply but 25 clause and values are 0 (`plain`), and so is the count where nothing was examined; also for a refused book
+  pub model-zeros : (m : List ℕ) (x : Reply) → CheckModel s m x → ¬ (numberOf (told x) ≡ 25) → told x ≡ plain (told x .answer) (x .count)
+  pub model-unexamined : (m : List ℕ) (x : Reply) → CheckModel s m x → ¬ (numberOf (told x) ≡ 0) → ¬ (numberOf (told x) ≡ 25) → x .count ≡ 0
   -- ---- The text -------------------------------------------------------------------------------------------
   -- a room that holds it gets the text of the book, character for character; for a shorter one the reply is the needed length
-  pub text-written : (b : Book) → Holds s b → (d e : List ℕ) (x : Printed) → Print s d x e → length (text b) ≤ length d
-      → (x ≡ Written (length (text b))) × (e ≡ text b ++ drop (length (text b)) d)
-  pub text-short : (b : Book) → Holds s b → (d e : List ℕ) (x : Printed) → Print s d x e → length d < length (text b) → x ≡ Short (length (text b))
+  pub text-written : (b : Book) → Holds s b → (d e : List ℕ) (x : code.Answer) → Print s d x e → length (text b) ≤ length d
+      → (x ≡ Done (length (text b))) × (e ≡ text b ++ drop (length (text b)) d)
+  pub text-short : (b : Book) → Holds s b → (d e : List ℕ) (x : code.Answer) → Print s d x e → length d < length (text b) → x ≡ Refused (refuse 9 (length (text b)))
   -- a parser that knows nothing of the printer gets its lines back
   pub text-parses : (b : Book) → parse (text b) ≡ some (script b)
 
@@ -168,25 +159,25 @@ pub record Demand3 (s : List ℕ) (b : Book) : Type 0 where
       → lastWriters b (f .rel) (steps b (Flagged b) (moves b (Flagged b) (first b flags) d)) ≡ d
   -- ---- On the conversions: `asTrace` and `asDerivation` are those two as lists of numbers -----------------
   -- a trace is written exactly when the derivation is accepted, and a million numbers and the room hold the trace
-  pub to-trace-exact : (l d e : List ℤ) (g : Fact) (x : Converted) → ToTrace s l g d x e
-      → ((n : ℕ) × (x ≡ Wrote n)) ↔ (IsDerivation s l g × (length (asTrace b flags l) ≤ 1000000) × (length (asTrace b flags l) ≤ length d))
+  pub to-trace-exact : (l d e : List ℤ) (g : Fact) (x : code.Answer) → ToTrace s l g d x e
+      → ((n : ℕ) × (x ≡ Done n)) ↔ (IsDerivation s l g × (length (asTrace b flags l) ≤ 1000000) × (length (asTrace b flags l) ≤ length d))
   -- it is accepted for the same goal, and has as many steps
-  pub to-trace-accepted : (l d e : List ℤ) (g : Fact) (n : ℕ) → ToTrace s l g d (Wrote n) e
+  pub to-trace-accepted : (l d e : List ℤ) (g : Fact) (n : ℕ) → ToTrace s l g d (Done n) e
       → (take n e ≡ asTrace b flags l) × IsTrace s (take n e) g × (length (traceSteps b flags (take n e)) ≡ length (derivationSteps b l))
   -- a derivation is written exactly when the trace is accepted, and the room holds the derivation
-  pub to-derivation-exact : (l d e : List ℤ) (g : Fact) (x : Converted) → ToDerivation s l g d x e
-      → ((n : ℕ) × (x ≡ Wrote n)) ↔ (IsTrace s l g × (length (asDerivation b flags (g .rel) l) ≤ length d))
+  pub to-derivation-exact : (l d e : List ℤ) (g : Fact) (x : code.Answer) → ToDerivation s l g d x e
+      → ((n : ℕ) × (x ≡ Done n)) ↔ (IsTrace s l g × (length (asDerivation b flags (g .rel) l) ≤ length d))
   -- it is accepted for the same goal, and has no more steps
-  pub to-derivation-accepted : (l d e : List ℤ) (g : Fact) (n : ℕ) → ToDerivation s l g d (Wrote n) e
+  pub to-derivation-accepted : (l d e : List ℤ) (g : Fact) (n : ℕ) → ToDerivation s l g d (Done n) e
       → (take n e ≡ asDerivation b flags (g .rel) l) × IsDerivation s (take n e) g × (length (derivationSteps b (take n e)) ≤ length (traceSteps b flags l))
   -- over and back is the same list, number for number, in every room d′ that holds it
-  pub there-and-back : (l d e : List ℤ) (g : Fact) (n : ℕ) → ToTrace s l g d (Wrote n) e → (d′ e′ : List ℤ) (x : Converted) → length l ≤ length d′
-      → ToDerivation s (take n e) g d′ x e′ → (x ≡ Wrote (length l)) × (take (length l) e′ ≡ l)
+  pub there-and-back : (l d e : List ℤ) (g : Fact) (n : ℕ) → ToTrace s l g d (Done n) e → (d′ e′ : List ℤ) (x : code.Answer) → length l ≤ length d′
+      → ToDerivation s (take n e) g d′ x e′ → (x ≡ Done (length l)) × (take (length l) e′ ≡ l)
   -- some list is accepted as a trace exactly when one is accepted as a derivation whose trace a million numbers hold
   pub either-way : (g : Fact) → ((l : List ℤ) × IsTrace s l g) ↔ ((l : List ℤ) × IsDerivation s l g × (length (asTrace b flags l) ≤ 1000000))
   -- ---- On models ------------------------------------------------------------------------------------------
   -- once there is a model, neither a derivation of the query nor a trace to it exists, of any length
   pub model-excludes : (ts : List Constraint) → Model b ts → (¬ Derivable b (query b)) × (¬ Reachable b (Flagged b) (query b))
   -- and so once the model check has replied 0; no list is accepted for the query then
-  pub reply-excludes : (m : List ℕ) (x : Reply) → CheckModel s m x → x .number ≡ 0
+  pub reply-excludes : (m : List ℕ) (x : Reply) → CheckModel s m x → numberOf (told x) ≡ 0
       → (¬ Derivable b (query b)) × (¬ Reachable b (Flagged b) (query b)) × ((l : List ℤ) → (¬ IsDerivation s l (query b)) × (¬ IsTrace s l (query b)))

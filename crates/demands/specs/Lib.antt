@@ -1,3 +1,4 @@
 pub mod Demands
+pub mod Shared
 pub mod Theorems
 pub mod Table

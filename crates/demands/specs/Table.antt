@@ -21,24 +21,24 @@ use Rattle.book.specs.Meaning as held
 use Rattle.book.specs.Answer as books
 use Rattle.reply.specs.Answer as reply
 use Rattle.reply.specs.Answer.{need, andThen}
+use Rattle.reply.specs.Room.{Due, written}
 use Rattle.lists.specs.Compare.{eqZ, eqVals, same, inside, allIn, firstOut, firstDiff}
 use Rattle.lists.specs.Instance.{clauseNumber, judgeClause, judge, judgeEnabled}
 use Rattle.lists.specs.Walker as walkers
 use Rattle.lists.specs.Derivation.{judgeStep, check, judgeGoal, judgeLength, checkDerivation}
 use Rattle.lists.specs.Trace.{flat, sum, cut, allRows, firstOutRows, stateNumbers, size, moveNumbers, traceNumbers, has, meets, judgeMove, firstOf, judgeFirst, checkWalk, checkTrace}
-use Rattle.lists.specs.Convert.{Reply, derivationSteps, asTrace, written, toTrace}
+use Rattle.lists.specs.Convert.{derivationSteps, asTrace, toTrace}
 use Rattle.facts.specs.Example.{listD, listT}
-use Rattle.facts.specs.Answer.{afterBook, onBook}
+use Rattle.book.specs.OnBook.{after, onBook}
 use Rattle.derivation.specs.Answer as derivations
 use Rattle.trace.specs.Answer as traces
-use Rattle.convert.specs.Reply.{replyOf}
-use Rattle.convert.specs.Calls.{toTraceIn}
+use Rattle.convert.specs.Calls.{toTraceDue}
 use Rattle.models.specs.Read as models
 use Rattle.models.specs.Read.{numberIn, inModel, ruleThen, modelIn}
 use Rattle.models.specs.Assignments.{natural, width, upFrom, assignments, count, rank}
 use Rattle.models.specs.Walk as walks
 use Rattle.models.specs.Walk.{triesFrom, walk, total, position, satisfies, met, breaks, find}
-use Rattle.models.specs.Answer.{Answer, outcome, weighed, judged, examine, inBook, modelAnswer}
+use Rattle.models.specs.Answer.{outcome, weighed, judged, examine, modelAnswer}
 
 -- ---- the words of the table
 
@@ -51,11 +51,11 @@ _says_at_ x n p = x ≡ (n, p)
 abbrev byte : ℕ → ℕ → List ℕ
 byte i v = set bookB i v
 
-abbrev reading : List ℕ → ℕ × ℕ
-reading s = (books.number (books.answer s), books.place (books.answer s))
-
 abbrev listed : reply.Answer → ℕ × ℕ
 listed a = (reply.number a, reply.place a)
+
+abbrev reading : List ℕ → ℕ × ℕ
+reading s = listed (onBook s reply.refused (λ b. reply.ok))
 
 abbrev derivation : List ℕ → List ℤ → ℕ × ℕ
 derivation s l = listed (derivations.answer s l 1 [])
@@ -64,14 +64,14 @@ abbrev trace : List ℕ → List ℤ → ℕ × ℕ
 trace s l = listed (traces.answer s l 1 [])
 
 -- the conversion of a list into a room of n numbers, each 7
-abbrev converted : List ℤ → ℕ → Reply
-converted l n = let room = replicate n (pos 7) in replyOf (books.answer bookB) (toTraceIn 1 [] l room) room
+abbrev converted : List ℤ → ℕ → Due ℤ
+converted l n = toTraceDue bookB l 1 [] (replicate n (pos 7))
 
 abbrev conversion : List ℤ → ℕ → ℕ × ℕ
-conversion l n = (converted l n .number, converted l n .place)
+conversion l n = listed (converted l n .answer)
 
 abbrev model : List ℕ → List ℕ → ℕ × ℕ
-model s m = (modelAnswer s m .number, modelAnswer s m .place)
+model s m = listed (modelAnswer s m .answer)
 
 abbrev examined : List ℕ → List ℕ → ℕ
 examined s m = modelAnswer s m .count
@@ -112,5 +112,5 @@ pub table :
     -- Remainder with d = 3, r = 2: true of 5, false of −1.
     × (remainder (pos 5) ≡ true)
     × (remainder (negsuc 0) ≡ false)
-unfolding flatMap u16At u32At i16At i32At plus is0 leaves holds placeWindow variableWindow head body pick kinds valueThen byteThen numberThen stepThen nodeThen byteAt belowAt relationAt variableAt skipAt numberAt kindAt sumAt remainsAt nodeAt follow constraintAt argumentsAt factAt bodyAt clauseThen partsAt clauseAt coefficientsAt sumOf then grow treeAt atomIn bodyIn treeOf treeIn clauseIn clauseOr sized headed trailer readingThen topArity arityAt aritiesAt recordAt clausesAt read entryAt upTo bookIn held.clauseNumber books.answer books.told need andThen eqZ eqVals same inside allIn firstOut firstDiff clauseNumber judgeClause judge judgeEnabled walkers.walk judgeStep check judgeGoal judgeLength checkDerivation flat sum cut allRows firstOutRows stateNumbers size moveNumbers traceNumbers has meets judgeMove firstOf judgeFirst checkWalk checkTrace derivationSteps asTrace written toTrace afterBook onBook derivations.answer traces.answer replyOf models.partsAt numberIn inModel ruleThen modelIn natural width upFrom assignments count rank triesFrom walk walks.sum total position satisfies met breaks find outcome weighed judged examine inBook modelAnswer
+unfolding flatMap u16At u32At i16At i32At plus is0 leaves holds placeWindow variableWindow head body pick kinds valueThen byteThen numberThen stepThen nodeThen byteAt belowAt relationAt variableAt skipAt numberAt kindAt sumAt remainsAt nodeAt follow constraintAt argumentsAt factAt bodyAt clauseThen partsAt clauseAt coefficientsAt sumOf then grow treeAt atomIn bodyIn treeOf treeIn clauseIn clauseOr sized headed trailer readingThen topArity arityAt aritiesAt recordAt clausesAt read entryAt upTo bookIn held.clauseNumber books.answer books.told need andThen eqZ eqVals same inside allIn firstOut firstDiff clauseNumber judgeClause judge judgeEnabled walkers.walk judgeStep check judgeGoal judgeLength checkDerivation flat sum cut allRows firstOutRows stateNumbers size moveNumbers traceNumbers has meets judgeMove firstOf judgeFirst checkWalk checkTrace derivationSteps asTrace written toTrace after onBook derivations.answer traces.answer models.partsAt numberIn inModel ruleThen modelIn natural width upFrom assignments count rank triesFrom walk walks.sum total position satisfies met breaks find outcome weighed judged examine modelAnswer
 table = (refl, refl, refl, refl, refl, refl, refl, refl, refl, refl, refl, refl, refl, refl, refl, refl, refl, refl, refl)

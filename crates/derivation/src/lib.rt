@@ -1,113 +1,161 @@
 // The derivation check: whether a list of numbers is a derivation of a goal in a clause book.
 ghost use mathlib.Core.Path.{_≡_};
-ghost use Prim.Native.Nat.{_<_};
-ghost use lib.ListN.{length, getD, take};
-ghost use Rattle.lists.specs.Derivation.{check as checkList, checkDerivation, goal};
-ghost use Rattle.book.specs.Read.{read};
+ghost use mathlib.Core.Option.{some};
+ghost use Prim.Native.Nat.{_+_, _<_, _≤_};
+ghost use lib.ListN.{length, getD, drop};
+ghost use Rattle.meaning.specs.Book.{body};
+ghost use Rattle.reply.specs.Answer.{number, told, Answers};
+ghost use Rattle.lists.specs.Compare.{same};
+ghost use Rattle.lists.specs.Instance.{clauseAt, stepAt};
+ghost use Rattle.lists.specs.Derivation.{judgeStep, check as checkList, checkDerivation, goal};
+ghost use Rattle.lists.specs.Convert.{derivationSteps};
 ghost use Rattle.book.specs.Meaning.{bookIn};
-ghost use Rattle.book.specs.declared.Reading.the-variants.{Good};
-ghost use Rattle.reply.specs.Answer.{told, Answers};
-ghost use Rattle.facts.specs.Place.{Seated};
-ghost use Rattle.derivation.specs.Step.{factAt, ends, Steps};
-ghost use Rattle.derivation.specs.Answer.{answer};
+ghost use Rattle.table.specs.Table.{Tabled};
+ghost use Rattle.instance.specs.Values.{numberIn};
+ghost use Rattle.derivation.specs.Step.{factAfter, Stood};
+ghost use Rattle.derivation.specs.Answer.{counted, answer};
 
-// What one step answers: where its head stands, or the refusal.
-pub enum Stepped {
-    Head(facts::Place),
-    Refused(reply::Refusal),
-}
-
-// 12 to 16: the step that begins at i, where the fact just before it stands at `last`
-fn step_at(book: &[u8], h: book::Header, list: &[i32], i: usize, last: facts::Place) -> Stepped
-    requires { ⌜ read (now book) ≡ Good h ⌝ }
-    requires { ⌜ (i < length (now list)) × Seated (take (h .start) (now book)) (length (now list)) last ⌝ }
-    ensures { λ r. ⌜ Steps (now (book .entry)) h (now (list .entry)) i (factAt (now (book .entry)) h (now (list .entry)) last) r ⌝ }
+// Whether the body of the step by clause k whose values stand from `from` on is the head of the step by clause `last` whose values stand from `since` on;
+// no step stands there where there is no such clause.
+fn met(
+    book: &[u8],
+    h: book::Header,
+    table: &[[u16; 8]; 64],
+    list: &[i32],
+    k: usize,
+    from: usize,
+    last: usize,
+    since: usize,
+) -> bool
+    requires { ⌜ Tabled (now book) h (now table) ⌝ }
+    requires { ⌜ (k < h .count) × Stood (bookIn (now book) h) (now list) k from ⌝ }
+    requires { ⌜ (last < h .count → Stood (bookIn (now book) h) (now list) last since) ⌝ }
+    ensures { λ r. ⌜ r ≡ same (body (bookIn (now (book .entry)) h) (stepAt (bookIn (now (book .entry)) h) k (drop from (now (list .entry))))) (factAfter (bookIn (now (book .entry)) h) (now (list .entry)) last since) ⌝ }
 {
-    match facts::instance_at(book, h, list, i, 0) {
-        facts::Instance::Refused(r) => Stepped::Refused(r),
-        facts::Instance::Good(l) => {
-            let start = h.start;
-            if facts::same_fact(&book[..start], list, facts::body_of(l, i + 1), last) {
-                Stepped::Head(facts::head_of(l, i + 1))
-            } else {
-                Stepped::Refused(reply::Refusal {
-                    number: 16,
-                    place: i,
-                })
-            }
-        }
+    let r = table::cell(table, k, table::BODY);
+    if h.count <= last {
+        return r == 255;
+    }
+    if r == table::cell(table, last, table::HEAD) {
+        instance::same_values(
+            book,
+            list,
+            table::cell(table, k, table::BODY_AT),
+            from,
+            table::cell(table, last, table::HEAD_AT),
+            since,
+            table::cell(table, k, table::BODY_MANY),
+        )
+    } else {
+        false
     }
 }
 
-// 17: the list, ends with the goal at `last`
+// 12 to 16: the number of the refusal of the step that begins at i, where the step before it is by clause `last` and has its values from `since` on; 0 for none
+fn step_at(
+    book: &[u8],
+    h: book::Header,
+    table: &[[u16; 8]; 64],
+    list: &[i32],
+    i: usize,
+    last: usize,
+    since: usize,
+) -> usize
+    requires { ⌜ Tabled (now book) h (now table) ⌝ }
+    requires { ⌜ i < length (now list) ⌝ }
+    requires { ⌜ (last < h .count → Stood (bookIn (now book) h) (now list) last since) ⌝ }
+    ensures { λ r. ⌜ r ≡ number (judgeStep (bookIn (now (book .entry)) h) (numberIn (now (book .entry)) h (now (list .entry)) i) (drop (i + 1) (now (list .entry))) i (factAfter (bookIn (now (book .entry)) h) (now (list .entry)) last since)) ⌝ }
+{
+    let n = instance::instance_at(book, h, table, list, i, 0);
+    if n == 0 {
+        let k = instance::number_at(list, i, h.count);
+        return if met(book, h, table, list, k, i + 1, last, since) {
+            0
+        } else {
+            16
+        };
+    }
+    n
+}
+
+// whether the head of the step by clause `last` is the goal
 fn ended(
     book: &[u8],
     h: book::Header,
+    table: &[[u16; 8]; 64],
     list: &[i32],
-    last: facts::Place,
+    last: usize,
+    since: usize,
+    relation: usize,
+    values: &[i32],
+) -> bool
+    requires { ⌜ Tabled (now book) h (now table) ⌝ }
+    requires { ⌜ (last < h .count → Stood (bookIn (now book) h) (now list) last since) ⌝ }
+    requires { ⌜ length (now values) ≡ getD (bookIn (now book) h .arities) relation 0 ⌝ }
+    ensures { λ r. ⌜ r ≡ same (factAfter (bookIn (now (book .entry)) h) (now (list .entry)) last since) (some (goal relation (now (values .entry)))) ⌝ }
+{
+    if h.count <= last {
+        return false;
+    }
+    if table::cell(table, last, table::HEAD) == relation {
+        let p = table::cell(table, last, table::HEAD_AT);
+        instance::values_are(book, list, p, since, values.len(), values)
+    } else {
+        false
+    }
+}
+
+// the steps of the list, then the goal; done with how many steps there are
+fn walk(
+    book: &[u8],
+    h: book::Header,
+    table: &[[u16; 8]; 64],
+    list: &[i32],
     relation: usize,
     values: &[i32],
 ) -> reply::Answer
-    requires { ⌜ read (now book) ≡ Good h ⌝ }
-    requires { ⌜ (relation < h .relations) × (length (now values) ≡ getD (now book) relation 0) ⌝ }
-    requires { ⌜ Seated (take (h .start) (now book)) (length (now list)) last ⌝ }
-    ensures { λ r. ⌜ r ≡ told (ends (factAt (now (book .entry)) h (now (list .entry)) last) (goal relation (now (values .entry))) (length (now (list .entry)))) ⌝ }
+    requires { ⌜ Tabled (now book) h (now table) ⌝ }
+    requires { ⌜ length (now values) ≡ getD (bookIn (now book) h .arities) relation 0 ⌝ }
+    ensures { λ r. ⌜ r ≡ told (counted (checkList (bookIn (now (book .entry)) h) (goal relation (now (values .entry))) (now (list .entry))) (length (derivationSteps (bookIn (now (book .entry)) h) (now (list .entry))))) ⌝ }
 {
-    let start = h.start;
-    if facts::reached(&book[..start], list, last, relation, values) {
-        reply::Answer::Done(0)
+    let mut i = 0;
+    let mut last = h.count;
+    let mut since = 0;
+    let mut steps = 0;
+    while i < list.len() {
+        let n = step_at(book, h, table, list, i, last, since);
+        if n != 0 {
+            return reply::refuse(n as u8, instance::refusal_place(book, h, table, list, i, n));
+        }
+        last = instance::number_at(list, i, h.count);
+        since = i + 1;
+        i = since + table::cell(table, last, table::VARIABLES);
+        steps += 1;
+    }
+    if ended(book, h, table, list, last, since, relation, values) {
+        reply::Answer::Done(steps)
     } else {
         reply::refuse(17, list.len())
     }
 }
 
-// the steps of the list, then the goal
-fn walk(
-    book: &[u8],
-    h: book::Header,
-    list: &[i32],
-    relation: usize,
-    values: &[i32],
-) -> reply::Answer
-    requires { ⌜ read (now book) ≡ Good h ⌝ }
-    requires { ⌜ (relation < h .relations) × (length (now values) ≡ getD (now book) relation 0) ⌝ }
-    ensures { λ r. ⌜ r ≡ told (checkList (bookIn (now (book .entry)) h) (goal relation (now (values .entry))) (now (list .entry))) ⌝ }
-{
-    let mut i = 0;
-    let mut last = facts::Place {
-        relation: 255,
-        seat: 0,
-        from: 0,
-        many: 0,
-    };
-    while i < list.len() {
-        match step_at(book, h, list, i, last) {
-            Stepped::Refused(r) => return reply::Answer::Refused(r),
-            Stepped::Head(p) => {
-                last = p;
-                i = p.from + (p.many as usize);
-            }
-        }
-    }
-    ended(book, h, list, last, relation, values)
-}
-
-// 10 to 17: whether a list is a derivation of the goal in a book already read
+// 10 to 17: whether a list is a derivation of the goal in a book already read, of which `table` is the table; done with how many steps it has
 pub fn check_in(
     book: &[u8],
     h: book::Header,
+    table: &[[u16; 8]; 64],
     list: &[i32],
     relation: usize,
     values: &[i32],
 ) -> reply::Answer
-    requires { ⌜ read (now book) ≡ Good h ⌝ }
-    ensures { λ r. ⌜ r ≡ told (checkDerivation (bookIn (now (book .entry)) h) relation (now (values .entry)) (now (list .entry))) ⌝ }
+    requires { ⌜ Tabled (now book) h (now table) ⌝ }
+    ensures { λ r. ⌜ r ≡ told (counted (checkDerivation (bookIn (now (book .entry)) h) relation (now (values .entry)) (now (list .entry))) (length (derivationSteps (bookIn (now (book .entry)) h) (now (list .entry))))) ⌝ }
 {
     match facts::judged_goal(book, h, relation, values) {
         reply::Answer::Refused(r) => reply::Answer::Refused(r),
         reply::Answer::Done(_) => match facts::judged_length(list) {
             reply::Answer::Refused(r) => reply::Answer::Refused(r),
-            reply::Answer::Done(_) => walk(book, h, list, relation, values),
+            reply::Answer::Done(_) => walk(book, h, table, list, relation, values),
         },
     }
 }
@@ -120,5 +168,9 @@ pub fn check(book: &[u8], list: &[i32], relation: usize, values: &[i32]) -> repl
     let book::Reading::Good(h) = read else {
         return book::refused_by(read);
     };
-    check_in(book, h, list, relation, values)
+    let table = table::table_of(book, h);
+    match check_in(book, h, &table, list, relation, values) {
+        reply::Answer::Refused(r) => reply::Answer::Refused(r),
+        reply::Answer::Done(_) => reply::Answer::Done(0),
+    }
 }

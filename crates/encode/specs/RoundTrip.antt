@@ -53,7 +53,7 @@ abbrev trailerStart : meant.Book → ℕ
 trailerStart b = indexStart b + length (b .clauses) * 2
 
 -- the parts of an encoded book stand where the trailer says
-record Holds (s : List ℕ) (b : meant.Book) : Type 0 where
+pub record Holds (s : List ℕ) (b : meant.Book) : Type 0 where
   arities : Stands s 0 (b .arities)
   records : Stands s (length (b .arities)) (spell clauseBytes (b .clauses))
   end : length (b .arities) + length (spell clauseBytes (b .clauses)) ≡ indexStart b
@@ -65,7 +65,7 @@ trailer-length : (b : meant.Book) → length (trailerBytes b) ≡ 16
 unfolding trailerBytes
 trailer-length b = simp (length-append, i32-length, u16-length)
 
-holds : (b : meant.Book) → Holds (encode b) b
+pub holds : (b : meant.Book) → Holds (encode b) b
 unfolding encode indexStart
 holds b =
     let s = encode b in
@@ -148,15 +148,15 @@ module _ (s : List ℕ) (b : meant.Book) (lim : Limits b) (small : length s ≤ 
         eq-eqb (trailerStart b + 16) (length s) (h .size),
       )
 
-  front : Stands (take (indexStart b) s) 0 (b .arities)
+  pub front : Stands (take (indexStart b) s) 0 (b .arities)
   front = stands-front s (indexStart b) 0 (b .arities) (omega (arith, h .end)) .1 (h .arities)
 
-  rows : Rows (take (indexStart b) s) s (length (b .arities)) (indexStart b) (b .clauses)
+  pub rows : Rows (take (indexStart b) s) s (length (b .arities)) (indexStart b) (b .clauses)
   rows = rows-stand (take (indexStart b) s) s (length (b .arities)) (indexStart b) (b .clauses)
       (stands-front s (indexStart b) (length (b .arities)) (spell clauseBytes (b .clauses)) (omega (arith, h .end)) .1 (h .records))
       (h .index)
 
-  read-holds : read s ≡ Good (headerOf b)
+  pub read-holds : read s ≡ Good (headerOf b)
   unfolding read readingThen stepThen headerOf
   read-holds =
       let q : getD (take (indexStart b) s) (b .query) 0 ≡ 0 =

@@ -1,34 +1,22 @@
-// Derivation to trace: how many numbers the trace has, and its numbers written in order.
+// Derivation to trace: the trace's numbers written in order.
 ghost use mathlib.Core.Path.{_≡_};
 ghost use mathlib.Core.Bool.{false};
 ghost use mathlib.Core.List.{map, _++_};
 ghost use Prim.Native.Nat.{_+_, _<_, _≤_};
 ghost use lib.ListN.{length, take, drop, replicate};
+ghost use Rattle.meaning.specs.Book.{placeWindow};
 ghost use Rattle.meaning.specs.State as state;
-ghost use Rattle.meaning.specs.State.{bit, first};
+ghost use Rattle.meaning.specs.State.{bit, lowRow, lowRows, first};
 ghost use Rattle.lists.specs.Trace.{flat, sum, size as stateSize, stateNumbers};
-ghost use Rattle.lists.specs.Convert.{derivationSteps, asTrace};
+ghost use Rattle.lists.specs.Convert.{asTrace};
 ghost use Rattle.lists.specs.Places.{traceDue};
 ghost use Rattle.book.specs.Read.{read};
 ghost use Rattle.book.specs.Meaning.{bookIn};
 ghost use Rattle.book.specs.declared.Reading.the-variants.{Good};
-ghost use Rattle.state.specs.State.{front, rowsOf, stateOf, Shape, Sized};
+ghost use Rattle.table.specs.Table.{Tabled};
+ghost use Rattle.state.specs.State.{front, rowsOf, stateOf, Sized};
 ghost use Rattle.steps.specs.Put.{Put};
 ghost use Rattle.steps.specs.Walk.{Walk};
-
-// How many steps the derivation has.
-pub fn count(book: &[u8], h: book::Header, list: &[i32]) -> usize
-    requires { ⌜ Walk (now book) h (now list) 0 0 ⌝ }
-    ensures { λ r. ⌜ (r ≡ length (derivationSteps (bookIn (now (book .entry)) h) (now (list .entry)))) × (r ≤ length (now (list .entry))) ⌝ }
-{
-    let mut n = 0;
-    let mut i = 0;
-    while i < list.len() {
-        i = steps::after(book, h, list, 0, i);
-        n += 1;
-    }
-    n
-}
 
 // ---- a state written
 
@@ -51,16 +39,17 @@ fn write_flags(flags: &[bool; 16], n: usize, room: &mut [i32], at: usize)
     }
 }
 
-// the places of n relations, whose arities stand at the front of the book
-fn write_places(book: &[u8], n: usize, rows: &[[i32; 8]; 16], room: &mut [i32], at: usize)
-    requires { ⌜ Shape (now book) n ⌝ }
-    requires { ⌜ at + sum (take n (now book)) ≤ length (now room) ⌝ }
-    ensures { λ _. ⌜ Put (now (room .entry)) (now (room .exit)) at (flat (rowsOf (take n (now (book .entry))) (now (rows .entry)))) ⌝ }
+// the places of all relations
+fn write_places(book: &[u8], h: book::Header, rows: &[[i32; 8]; 16], room: &mut [i32], at: usize)
+    requires { ⌜ read (now book) ≡ Good h ⌝ }
+    requires { ⌜ at + sum (bookIn (now book) h .arities) ≤ length (now room) ⌝ }
+    ensures { λ _. ⌜ Put (now (room .entry)) (now (room .exit)) at (flat (rowsOf (bookIn (now (book .entry)) h .arities) (now (rows .entry)))) ⌝ }
 {
+    let n = whole::wide(h.relations);
     let mut p = at;
     let mut r = 0;
     while r < n {
-        let many = whole::wide(book[r]);
+        let many = book::arity_of(book, h, r);
         steps::copy(&rows[r], 0, many, room, p);
         p += many;
         r += 1;
@@ -82,7 +71,7 @@ fn write_state(
 {
     let n = whole::wide(h.relations);
     write_flags(flags, n, room, at);
-    write_places(book, n, rows, room, at + n);
+    write_places(book, h, rows, room, at + n);
 }
 
 // a step's n numbers, which begin at i, and the state after it
@@ -105,31 +94,68 @@ fn write_move(
     write_state(book, h, flags, rows, room, at + n);
 }
 
-// the places of the first state, all at the low end of the window
-fn low_rows(h: book::Header) -> [[i32; 8]; 16]
-    ensures { λ r. ⌜ r ≡ replicate 16 (replicate 8 (h .lo)) ⌝ }
+// ---- the first state's places, each at the low end of its window
+
+// the low end of a window
+fn low_end(w: book::Window) -> i32
+    ensures { λ r. ⌜ r ≡ w .lo ⌝ }
 {
-    let row = [h.lo; 8];
-    [row; 16]
+    w.lo
 }
 
+// those of relation r
+fn low_row(book: &[u8], h: book::Header, r: usize) -> [i32; 8]
+    ensures { λ v. ⌜ v ≡ lowRow (placeWindow (bookIn (now (book .entry)) h) r) 8 ⌝ }
+{
+    let mut row = [0i32; 8];
+    let mut j = 0;
+    while j < 8 {
+        row[j] = low_end(book::place_window(book, h, r, j));
+        j += 1;
+    }
+    row
+}
+
+// eight of each of sixteen relations
+fn low_rows(book: &[u8], h: book::Header) -> [[i32; 8]; 16]
+    ensures { λ v. ⌜ v ≡ lowRows (placeWindow (bookIn (now (book .entry)) h)) (replicate 16 8) ⌝ }
+{
+    let mut rows = [[0i32; 8]; 16];
+    let mut r = 0;
+    while r < 16 {
+        rows[r] = low_row(book, h, r);
+        r += 1;
+    }
+    rows
+}
+
+// ---- the walk
+
 // the steps in order, each with the state after it, behind the first state
-fn write_steps(book: &[u8], h: book::Header, list: &[i32], size: usize, room: &mut [i32])
+fn write_steps(
+    book: &[u8],
+    h: book::Header,
+    table: &[[u16; 8]; 64],
+    list: &[i32],
+    size: usize,
+    room: &mut [i32],
+)
+    requires { ⌜ Tabled (now book) h (now table) ⌝ }
     requires { ⌜ Walk (now book) h (now list) 0 0 ⌝ }
-    requires { ⌜ Sized (bookIn (now book) h) size ⌝ }
+    requires { ⌜ Sized (bookIn (now book) h) state.flags size ⌝ }
     requires { ⌜ size + length (traceDue (bookIn (now book) h) state.flags (now list) 0 (first (bookIn (now book) h) state.flags)) ≤ length (now room) ⌝ }
     ensures { λ _. ⌜ Put (now (room .entry)) (now (room .exit)) size (traceDue (bookIn (now (book .entry)) h) state.flags (now (list .entry)) 0 (first (bookIn (now (book .entry)) h) state.flags)) ⌝ }
 {
     let mut flags = [false; 16];
-    let mut rows = low_rows(h);
+    let mut rows = low_rows(book, h);
     let mut at = size;
     let mut i = 0;
     while i < list.len() {
-        let c = steps::clause_at(book, h, list, i);
-        let n = 1 + whole::wide(c.variables);
-        let r = whole::wide(c.head);
+        let k = instance::number_at(list, i, h.count);
+        let n = 1 + table::cell(table, k, table::VARIABLES);
+        let r = table::cell(table, k, table::HEAD);
         flags[r] = true;
-        rows[r] = state::row_of(book, h, list, facts::head_of(c, i + 1));
+        state::put(book, h, table, k, list, i + 1, &mut rows);
         write_move(book, h, list, i, n, &flags, &rows, room, at);
         at = at + n + size;
         i += n;
@@ -137,14 +163,22 @@ fn write_steps(book: &[u8], h: book::Header, list: &[i32], size: usize, room: &m
 }
 
 // Writes the trace's numbers to the front of the room.
-pub fn write(book: &[u8], h: book::Header, list: &[i32], size: usize, room: &mut [i32])
+pub fn write(
+    book: &[u8],
+    h: book::Header,
+    table: &[[u16; 8]; 64],
+    list: &[i32],
+    size: usize,
+    room: &mut [i32],
+)
+    requires { ⌜ Tabled (now book) h (now table) ⌝ }
     requires { ⌜ Walk (now book) h (now list) 0 0 ⌝ }
-    requires { ⌜ Sized (bookIn (now book) h) size ⌝ }
+    requires { ⌜ Sized (bookIn (now book) h) state.flags size ⌝ }
     requires { ⌜ length (asTrace (bookIn (now book) h) state.flags (now list)) ≤ length (now room) ⌝ }
     ensures { λ _. ⌜ Put (now (room .entry)) (now (room .exit)) 0 (asTrace (bookIn (now (book .entry)) h) state.flags (now (list .entry))) ⌝ }
 {
     let flags = [false; 16];
-    let rows = low_rows(h);
+    let rows = low_rows(book, h);
     write_state(book, h, &flags, &rows, room, 0);
-    write_steps(book, h, list, size, room);
+    write_steps(book, h, table, list, size, room);
 }

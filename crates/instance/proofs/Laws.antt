@@ -21,7 +21,7 @@ use Rattle.lists.specs.Enabled.{outside}
 use Rattle.lists.specs.Laws.{judge-exact}
 use Rattle.book.specs.declared.Header.{Header}
 use Rattle.book.specs.declared.Window as codes
-use Rattle.book.specs.Windows.{Windowed}
+use Rattle.book.specs.Windows.{Windowed, windowOf}
 use Rattle.book.specs.declared.Reading.the-variants.{Good}
 use Rattle.book.specs.Read.{read}
 use Rattle.book.specs.Meaning.{bookIn}
@@ -29,7 +29,7 @@ use Rattle.book.specs.Joined.{count-is}
 use Rattle.cursor.specs.Meaning.{treeIn}
 use Rattle.cursor.specs.Sound.{IsTree}
 use Rattle.table.specs.Table.{Tabled}
-use Rattle.instance.specs.Values.{numberOr, numberIn, Whole, windowOf, valuesAt, Valued}
+use Rattle.instance.specs.Values.{numberOr, numberIn, Whole, valuesAt, Valued}
 
 -- ---- two lists of values, compared from number j on
 

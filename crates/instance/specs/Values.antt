@@ -3,10 +3,8 @@ use Prim.Native.Nat.{ℕ, _+_, _<_, _≤_}
 use mathlib.Core.List.{List, map}
 use lib.ListN.{length, getD, take, drop}
 use lib.IntN.{ℤ, pos, negsuc}
-use Rattle.meaning.specs.Book as meant
 use Rattle.lists.specs.Instance.{clauseNumber, clauseAt}
 use Rattle.book.specs.declared.Header.{Header}
-use Rattle.book.specs.declared.Window.{Window}
 use Rattle.book.specs.Meaning.{bookIn}
 
 -- a list's number as a clause's number; below zero it is n
@@ -22,10 +20,6 @@ numberIn s h l i = clauseNumber (bookIn s h) (getD l i (pos 0))
 pub record Whole (s : List ℕ) (h : Header) (l : List ℤ) (i : ℕ) : Type 0 where
   pub there : numberIn s h l i < h .count
   pub room : i + 1 + clauseAt (bookIn s h) (numberIn s h l i) .vars ≤ length l
-
--- the window that the code has
-abbrev pub windowOf : Window → meant.Window
-windowOf w = record { lo = w .lo; hi = w .hi }
 
 -- the values of n arguments from byte p on, where the variables' values stand from place j on
 unfoldable pub valuesAt : List ℕ → List ℤ → ℕ → ℕ → ℕ → List ℤ

@@ -11,7 +11,8 @@ ghost use Rattle.lists.specs.Instance.{clauseNumber, clauseAt, judgeClause, jud
 ghost use Rattle.lists.specs.Enabled.{refusalPlace};
 ghost use Rattle.book.specs.Meaning.{bookIn};
 ghost use Rattle.table.specs.Table.{Tabled};
-ghost use Rattle.instance.specs.Values.{numberOr, numberIn, Whole, windowOf, valuesAt, Valued};
+ghost use Rattle.book.specs.Windows.{windowOf};
+ghost use Rattle.instance.specs.Values.{numberOr, numberIn, Whole, valuesAt, Valued};
 
 // ---- numbers of a list
 

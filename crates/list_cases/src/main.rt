@@ -32,7 +32,7 @@ fn fill_and_run(call: usize, n: usize, book: &mut [u8], list: &mut [i32], values
     requires { do ⌜ n ≤ (← ⟦book.len()⟧) ⌝ }
 {
     console::put_bytes(book, n);
-    let relation = console::next_long();
+    let relation = console::long(console::next(), console::next());
     let count = console::next();
     let v = console::put_written(values, 0, count);
     let m = console::put_list(list);

@@ -20,10 +20,10 @@ module _ (b : Book) (C : Control) (r : ℕ) (vals l room : List ℤ) where
   -- ---- to a trace
 
   -- the answer before the room is looked at
-  abbrev limited : Answer
+  abbrev pub limited : Answer
   limited = andThen (checkDerivation b r vals l) (need (leb (length (asTrace b C l)) 1000000) 20 (length (asTrace b C l)) ok)
 
-  among-limited : Among (20 ∷ inDerivation) limited
+  pub among-limited : Among (20 ∷ inDerivation) limited
   unfolding has all
   among-limited = among-and _ (among-all (20 ∷ inDerivation) tt (among-derivation b r vals l)) (search amongs)
 

@@ -20,8 +20,7 @@ use Rattle.book.specs.declared.Reading.the-variants.{Good}
 use Rattle.book.specs.Read.{read}
 use Rattle.book.specs.Meaning.{bookIn}
 use Rattle.book.specs.Joined.{count-is}
-use Rattle.facts.specs.Instance.{windows}
-use Rattle.facts.proofs.Windows.{variable-window}
+use Rattle.book.specs.Windows.{windowsOf}
 use Rattle.models.specs.Assignments.{assignments, count}
 use Rattle.models.specs.Order.{assignments-count}
 use Rattle.models.specs.Walk.{step, tries, triesFrom, walk, sum, total, Finding, clean, broken, find, findThen}
@@ -111,12 +110,12 @@ module _ (s : List ℕ) (h : Header) (t l : List ℕ) (k : ℕ) (task : Task) (g
   pub asked-task : Started t (take (h .relations) s) l → Taken s h k l task → Tasked s h t k task
   asked-task st w = tasks.tasked s h good t l st k task w
 
-  pub asked-count : k < h .count → Taken s h k l task → total (bookIn s h) ≤ 1000000 → count (windows h) (task .clause .variables) ≤ 1000000
+  pub asked-count : k < h .count → Taken s h k l task → total (bookIn s h) ≤ 1000000 → count (windowsOf s h k) (task .clause .variables) ≤ 1000000
   unfolding clauseIn
   asked-count b w few =
       let x = clause-small (bookIn s h) [] k (omega (arith, count-is s h good)) in
-      let y = rw (w .held .is, variable-window s h (clauseIn (take (h .start) s) (task .clause))) at x in
-      omega (arith, y)
+      let vars : getD (bookIn s h .clauses) k none-such .vars ≡ task .clause .variables = ap (λ (y : meant.Clause). y .vars) (w .held .is) in
+      let y = rw vars at x in omega (arith, y)
 
 -- the same of an accepted book, where the code's tests are of the header's count
 module _ (s : List ℕ) (h : Header) (t : List ℕ) (good : read s ≡ Good h) where

@@ -25,6 +25,7 @@ use Rattle.book.specs.declared.Reading.{Reading}
 use Rattle.book.specs.declared.Reading.the-variants as readings
 use Rattle.book.specs.declared.Reading.the-variants.{Good}
 use Rattle.book.specs.Read.{read}
+use Rattle.book.specs.Arities.{arity-query}
 use Rattle.book.specs.Meaning.{bookIn}
 use Rattle.book.specs.Answer.{Answers}
 use Rattle.book.specs.OnBook.{refusedBy, by-refused, by-good, refused-own}
@@ -68,7 +69,7 @@ module _ (s : List ℕ) (h : Header) (t l : List ℕ) {q : ℕ} (good : read s �
   query-part =
       let w = tasks.read-parts s h good t l st in
       let k = read-trailed s h good .kept in
-      rw (e, w .1) (rw (tasks.arity-query s h good) at (tasks.part-of s h good t l st (h .query) (k .query)))
+      rw (e, w .1) (rw (arity-query s h good) at (tasks.part-of s h good t l st (h .query) (k .query)))
 
   pub query-tree : IsTree t 0 (getD l q 0)
   query-tree = rw (query-part .start) (query-part .tree)

@@ -14,7 +14,7 @@ use Rattle.book.specs.OnBook.{on-refused}
 use Rattle.book.specs.Numbers.{refused-number}
 use Rattle.models.specs.Walk.{total}
 use Rattle.models.specs.Answer.{numberOf, plain, examine, modelAnswer}
-use Rattle.models.specs.Written.{holds-exactly}
+use Rattle.models.specs.Written.{Fit, holds-exactly}
 use Rattle.models.specs.Exact.{answered, accepted-count, FirstBroken, brokenAt, broken-exactly}
 use Rattle.models.specs.Main.{Accepted, accepted}
 use Rattle.model.specs.declared.Reply as code
@@ -36,10 +36,11 @@ module _ (s m : List ℕ) (x : code.Reply) (w : Replies s m x) where
     all-counted z = examined ∙ accepted-count b m (sym (ap numberOf examined) ∙ z)
 
     -- 25: the bytes are a model written out, and the reply is its first broken instance at its position
-    pub first-named : Bytes m → numberOf (told x) ≡ 25 → (ts : List Constraint) × (t : Step) × (m ≡ spell constraintBytes ts) × FirstBroken b ts t × (told x ≡ brokenAt b t)
+    pub first-named : Bytes m → numberOf (told x) ≡ 25 → (ts : List Constraint) × (t : Step) × Fit (b .arities) ts × (m ≡ spell constraintBytes ts) × FirstBroken b ts t × (told x ≡ brokenAt b t)
     first-named y z =
         let k = broken-exactly b m (sym (ap numberOf examined) ∙ z) in
-        (k .model, k .step, holds-exactly y (b .arities) (k .model) .0 (k .held) .1, k .first, examined ∙ k .reply)
+        let w = holds-exactly y (b .arities) (k .model) .0 (k .held) in
+        (k .model, k .step, w .0, w .1, k .first, examined ∙ k .reply)
 
   -- accepted exactly when the bytes hold a book and a model of it, over at most a million assignments
   pub exact : Bytes m → (numberOf (told x) ≡ 0) ↔ ((b : Book) × (books.answer s ≡ books.accepted b) × Accepted b m)

@@ -6,7 +6,7 @@ ghost use Rattle.reply.specs.Answer.{says};
 ghost use Rattle.book.specs.Read.{read};
 ghost use Rattle.book.specs.Meaning.{bookIn};
 ghost use Rattle.book.specs.declared.Reading.the-variants.{Good};
-ghost use Rattle.facts.specs.Instance.{windows};
+ghost use Rattle.book.specs.Windows.{windowsOf};
 ghost use Rattle.models.specs.Assignments.{count};
 ghost use Rattle.models.specs.Walk.{total};
 ghost use Rattle.models.specs.Answer.{plain};
@@ -45,19 +45,17 @@ fn try_clause(
 ) -> Reply
     requires { ⌜ read (now book) ≡ Good h ⌝ }
     requires { ⌜ Tasked (now book) h (now model) k t ⌝ }
-    requires { ⌜ (before ≤ 1000000) × (count (windows h) (t .clause .variables) ≤ 1000000) ⌝ }
+    requires { ⌜ (before ≤ 1000000) × (count (windowsOf (now book) h k) (t .clause .variables) ≤ 1000000) ⌝ }
     ensures { λ r. ⌜ told r ≡ clauseAnswer (now (book .entry)) h (now (model .entry)) k before ⌝ }
 {
-    let start = h.start;
-    let front = &book[..start];
     let l = t.clause;
     let n = whole::wide(l.variables);
-    let mut left = odometer::count_of(h, l.variables);
-    let mut values = odometer::first_of(h, n);
+    let mut left = odometer::count_of(book, h, k, l.variables);
+    let mut values = odometer::first_of(book, h, k, n);
     let mut seen = before;
     while 0 < left {
         seen += 1;
-        if parts::breaks_at(front, t, &values, model) {
+        if parts::breaks_at(book, t, &values, model) {
             let broken = reply::refuse(25, seen);
             return Reply {
                 answer: broken,
@@ -66,7 +64,7 @@ fn try_clause(
                 values: values,
             };
         }
-        odometer::advance(&mut values, h, n);
+        odometer::advance(&mut values, book, h, k, n);
         left -= 1;
     }
     simply(reply::Answer::Done(0), seen)
@@ -105,7 +103,7 @@ fn weigh(book: &[u8], h: book::Header, model: &[u8], starts: [usize; 16]) -> Rep
     let q = whole::wide(h.query);
     let at = starts[q];
     let none = [0i32; 16];
-    if truth::truth(model, at, 0, &none, 0) {
+    if truth::walk(model, at, 0, &none, 0) {
         return simply(reply::refuse(23, at), 0);
     }
     if 1000000 < odometer::total_of(book, h) {

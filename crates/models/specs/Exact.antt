@@ -8,9 +8,11 @@ use Prim.Native.Nat.{ℕ, suc, _<_, _≤_}
 use native.Mathlib.Omega.{arith}
 use lib.ListN.{length, getD, length-map, List·getD-map, List·getD-append}
 use lib.Seq.{getD-append-seam}
+use lib.Dec.{T}
 use lib.Ieee.Bits.{is-true}
 use borrow.Author.Tests.{ltb-true, ltb-false}
 use Rattle.reply.specs.Answer.{refused, ok}
+use Rattle.reply.specs.Among.{has, Among, among-ok, among-refused}
 use Rattle.meaning.specs.Constraint.{Constraint, truth, holds}
 use Rattle.meaning.specs.Book.{Book, Fact, Step, Instance, clauseOf, head, body, query}
 use Rattle.meaning.specs.Limits.{Each, Limits}
@@ -21,6 +23,7 @@ use Rattle.meaning.specs.Model.{All, Satisfies, Model}
 use Rattle.meaning.specs.Laws.{Laws}
 use Rattle.meaning.specs.Main.{model-derivation, model-trace, flags-model-trace}
 use Rattle.meaning.specs.Wf.{each-at}
+use Rattle.reply.specs.declared.Refusal.{Refusal}
 use Rattle.cursor.specs.declared.Cursor.{Cursor}
 use Rattle.cursor.specs.Tree.{Got, got, no, then}
 use Rattle.cursor.specs.Inverse.{pick-by, no-tree, then-went}
@@ -28,7 +31,7 @@ use Rattle.book.specs.Answer.{answer, accepted}
 use Rattle.book.specs.OnBook.{on-accepted}
 use Rattle.models.specs.Read.{Part, rules, numberIn, inModel, ruleThen, partsAt, modelIn}
 use Rattle.models.specs.Walk.{Assignment, walk, total, position, satisfies, met, breaks, Finding, clean, broken, find}
-use Rattle.models.specs.Found.{Among, tried, position-walk, walk-total, Whole, First, find-clean, find-broken, walk-clean}
+use Rattle.models.specs.Found.{Among as Within, tried, position-walk, walk-total, Whole, First, find-clean, find-broken, walk-clean}
 use Rattle.models.specs.Answer.{Reply, numberOf, plain, slots, outcome, no-part, weighed, judged, examine, modelAnswer}
 
 never : false ≡ true → ⊥
@@ -78,6 +81,10 @@ unfolding partsAt
 parts-fine s [] c = pick-by Fine _ _ _ (λ t. tt) (λ t. inr refl)
 parts-fine s (n ∷ ns) c = fine-rule _ _ λ t d. fine-then (partsAt s ns d) (record { at = c .at; rule = t }) (parts-fine s ns d)
 
+pub refused-read : (s ns : List ℕ) {r : Refusal} → modelIn s ns ≡ no r → (r .number ≡ 21) ⊎ (r .number ≡ 22)
+unfolding modelIn
+refused-read s ns e = rw e at (parts-fine s ns (record { at = 0; left = 0 }))
+
 -- ---- what breaks a model
 
 module _ (b : Book) (m : List Constraint) where
@@ -103,7 +110,7 @@ module _ (b : Book) (m : List Constraint) where
     pub body : All (Satisfies m) (body b s)
     pub head : ¬ Satisfies m (head b s)
 
-  breaks-broken : (s : Step) → Assignment b s → (breaks b m s ≡ true) ↔ Broken s
+  pub breaks-broken : (s : Step) → Assignment b s → (breaks b m s ≡ true) ↔ Broken s
   unfolding breaks
   breaks-broken s a = (
     λ e. go (holds (s .vals) (clauseOf b s .rule)) refl (met m (body b s)) refl (satisfies m (head b s)) refl e,
@@ -214,7 +221,7 @@ module _ (b : Book) where
     read-passes : (y : Got (List Part)) → modelIn s (b .arities) ≡ y → numberOf (judged b y) ≡ 0 → (ps : List Part) × (c : Cursor) × (y ≡ got ps c) × Passes b ps
     unfolding judged modelIn
     read-passes (got ps c) e h = (ps, c, refl, passes ps h)
-    read-passes (no r) e h = absurd (fine (rw e at (parts-fine s (b .arities) (record { at = 0; left = 0 }))))
+    read-passes (no r) e h = absurd (fine (refused-read s (b .arities) e))
       where
         fine : (r .number ≡ 21) ⊎ (r .number ≡ 22) → ⊥
         fine (inl z) = omega arith
@@ -278,7 +285,7 @@ pub record Breaks (b : Book) (s : List ℕ) : Type 0 where
   pub first : FirstBroken b model step
   pub reply : examine b s ≡ brokenAt b step
 
-each-before : {A : Type 0} (P : A → Type 0) {l : List A} {x y : A} (p : Among x l) (q : Among y l) → length (q .before) < length (p .before) → Each P (p .before) → P y
+each-before : {A : Type 0} (P : A → Type 0) {l : List A} {x y : A} (p : Within x l) (q : Within y l) → length (q .before) < length (p .before) → Each P (p .before) → P y
 each-before P {l} {x} {y} p q h e =
     let i = length (q .before) in
     let one : getD l i y ≡ y = rw (q .is) (getD-append-seam (q .before) y (q .behind) y) in
@@ -319,7 +326,7 @@ module _ (b : Book) (s : List ℕ) where
       (ps : List Part) × (c : Cursor) × (y ≡ got ps c) × ((t : Step) × FirstBroken b (rules ps) t × (judged b y ≡ brokenAt b t))
   unfolding judged modelIn
   broken-read (got ps c) e h = (ps, c, refl, broken-weighed ps h)
-  broken-read (no r) e h = absurd (fine (rw e at (parts-fine s (b .arities) (record { at = 0; left = 0 }))))
+  broken-read (no r) e h = absurd (fine (refused-read s (b .arities) e))
     where
       fine : (r .number ≡ 21) ⊎ (r .number ≡ 22) → ⊥
       fine (inl z) = omega arith
@@ -331,6 +338,31 @@ module _ (b : Book) (s : List ℕ) where
   broken-exactly h =
       let (ps, c, e, w) = broken-read (modelIn s (b .arities)) refl h in
       record { model = rules ps; held = record { parts = ps; end = c; reads = e; are = refl }; step = w .0; first = w .1; reply = w .2 }
+
+-- ---- which numbers there are
+
+abbrev pub modelNumbers : List ℕ
+modelNumbers = 21 ∷ 22 ∷ 23 ∷ 24 ∷ 25 ∷ []
+
+module _ (b : Book) where
+  among-outcome : (f : Finding) → Among modelNumbers (outcome f .answer)
+  unfolding outcome has
+  among-outcome (clean n) = among-ok
+  among-outcome (broken n s) = among-refused 25 n tt
+
+  among-judged : (s : List ℕ) (y : Got (List Part)) → modelIn s (b .arities) ≡ y → Among modelNumbers (judged b y .answer)
+  unfolding judged modelIn has
+  among-judged s (got ps c) e =
+      weighed-by b ps (λ y. Among modelNumbers (y .answer)) (λ t. among-refused 23 _ tt) (λ t u. among-refused 24 _ tt) (λ t u. among-outcome (find b (rules ps) 0 (walk b)))
+  among-judged s (no r) e = among-refused _ _ (fine (refused-read s (b .arities) e))
+    where
+      fine : (r .number ≡ 21) ⊎ (r .number ≡ 22) → T (has modelNumbers (r .number))
+      fine (inl z) = rw z tt
+      fine (inr z) = rw z tt
+
+  pub among-examine : (s : List ℕ) → Among modelNumbers (examine b s .answer)
+  unfolding examine
+  among-examine s = among-judged s (modelIn s (b .arities)) refl
 
 -- ---- from the book's bytes
 

@@ -7,6 +7,7 @@ pub mod Order
 pub mod Found
 pub mod Exact
 pub mod Written
+pub mod Due
 pub mod Odometer
 pub mod Cap
 pub mod Passed

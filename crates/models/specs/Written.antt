@@ -31,12 +31,12 @@ unfoldable pub placed : ℕ → List Constraint → List Part
 placed p [] = []
 placed p (t ∷ ts) = record { at = p; rule = t } ∷ placed (p + length (constraintBytes t)) ts
 
-placed-rules : (p : ℕ) (ts : List Constraint) → rules (placed p ts) ≡ ts
+pub placed-rules : (p : ℕ) (ts : List Constraint) → rules (placed p ts) ≡ ts
 unfolding placed
 placed-rules p [] = refl
 placed-rules p (t ∷ ts) = ap (λ (l : List Constraint). t ∷ l) (placed-rules (p + length (constraintBytes t)) ts)
 
-parts-written : (s ns : List ℕ) (ts : List Constraint) (c : Cursor) → Fit ns ts → Stands s (c .at) (spell constraintBytes ts) →
+pub parts-written : (s ns : List ℕ) (ts : List Constraint) (c : Cursor) → Fit ns ts → Stands s (c .at) (spell constraintBytes ts) →
     c .at + length (spell constraintBytes ts) ≡ length s → (e : Cursor) × (partsAt s ns c ≡ got (placed (c .at) ts) e)
 unfolding partsAt placed spell ruleThen then pick
 parts-written s [] [] c f h l = let z : c .at ≡ length s = omega arith in (c, rw (eq-eqb (c .at) (length s) z))

@@ -4,20 +4,19 @@ use Prim.Native.Nat.{ℕ, _+_, _*_, _≤_, _<_}
 use native.Mathlib.Numerals.{add-one}
 use native.Mathlib.Omega.{arith}
 use native.Mathlib.Nat.{mul-le-mul}
-use Rattle.book.specs.declared.Header.{Header}
-use Rattle.facts.specs.Instance.{windows}
+use Rattle.meaning.specs.Book.{Window}
 use Rattle.models.specs.Assignments.{width, count}
 use Rattle.models.specs.Cap.{cap, cap-small, cap-below, cap-times}
 
 -- no variables
-pub count-none : (h : Header) → 1 ≡ cap (count (windows h) 0)
+pub count-none : (v : ℕ → Window) → 1 ≡ cap (count v 0)
 unfolding count
-count-none h = sym (cap-small 1 (omega arith))
+count-none v = sym (cap-small 1 (omega arith))
 
-module _ (h : Header) (i : ℕ) {all w x : ℕ} where
-  pub count-more : all ≡ cap (count (windows h) i) → w ≡ width (windows h i) → x ≡ cap (all * w) → x ≡ cap (count (windows h) (i + 1))
+module _ (v : ℕ → Window) (i : ℕ) {all w x : ℕ} where
+  pub count-more : all ≡ cap (count v i) → w ≡ width (v i) → x ≡ cap (all * w) → x ≡ cap (count v (i + 1))
   unfolding count
-  count-more p q e = rw (add-one i, ← (cap-times (count (windows h) i) (width (windows h i))), ← p, ← q) e
+  count-more p q e = rw (add-one i, ← (cap-times (count v i) (width (v i))), ← p, ← q) e
 
 pub capped-small : (n : ℕ) {all : ℕ} → all ≡ cap n → all ≤ 1000001
 capped-small n p = omega (arith, cap-below n)

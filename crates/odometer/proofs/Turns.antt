@@ -14,14 +14,15 @@ use mir.Facts.{toZ-ofZ}
 use Rattle.whole.specs.Whole.{own, fits-next}
 use Rattle.meaning.specs.Book.{Window}
 use Rattle.cursor.specs.Steps.{pick}
-use Rattle.book.specs.declared.Header.{Header}
-use Rattle.facts.specs.Instance.{windows}
+use Rattle.book.specs.declared.Window as code
+use Rattle.book.specs.Windows.{Windowed}
 use Rattle.models.specs.Odometer.{lows, up}
 
-module _ (h : Header) (i : ℕ) (us : List ℤ) {vs x : List ℤ} where
-  pub lows-more : vs ≡ lows (windows h) i us → SFits w32 (h .lo) → x ≡ set vs i (toZ w32 (ofZ w32 (h .lo))) → x ≡ lows (windows h) (i + 1) us
-  unfolding lows windows
-  lows-more p f e = e ∙ rw (p, toZ-ofZ f, add-one i)
+-- w is the code's window of the value that is stored
+module _ (ws : ℕ → Window) (i : ℕ) (us : List ℤ) {w : code.Window} {vs x : List ℤ} where
+  pub lows-more : vs ≡ lows ws i us → Windowed (ws i) w → SFits w32 (w .lo) → x ≡ set vs i (toZ w32 (ofZ w32 (w .lo))) → x ≡ lows ws (i + 1) us
+  unfolding lows
+  lows-more p q f e = e ∙ rw (p, toZ-ofZ f, q .lo, add-one i)
 
 up-at : (w : ℕ → Window) (i : ℕ) (vs : List ℤ) → 0 < i →
     up w i vs ≡ pick (ltZ (getD vs (i - 1) (pos 0)) (w (i - 1) .hi)) (set vs (i - 1) (getD vs (i - 1) (pos 0) +ℤ pos 1)) (up w (i - 1) (set vs (i - 1) (w (i - 1) .lo)))
@@ -29,7 +30,7 @@ unfolding up
 up-at w zero vs l = absurd (let z : ⊥ = omega arith in z)
 up-at w (suc j) vs l = rw sub-one
 
-module _ (h : Header) (vs : List ℤ) (i : ℕ) where
+module _ (h : code.Window) (vs : List ℤ) (i : ℕ) where
   abbrev v : ℤ
   v = getD vs (i - 1) (pos 0)
 
@@ -48,15 +49,15 @@ module _ (h : Header) (vs : List ℤ) (i : ℕ) where
     test-is : {t : Bool} → ltZ (toZ w32 (ofZ w32 v)) (toZ w32 (ofZ w32 (h .hi))) ≡ t → ltZ v (h .hi) ≡ t
     test-is e = let f : SFits w32 v = record { sfits = k } in simp (toZ-ofZ f, toZ-ofZ g) at e
 
-    pub turn-up : {x : List ℤ} → 0 < i → Less → x ≡ set vs (i - 1) (toZ w32 (ofZ w32 (toZ w32 (ofZ w32 v) +ℤ pos 1))) → x ≡ up (windows h) i vs
-    unfolding pick windows
-    turn-up l t e = e ∙ rw (up-at (windows h) i vs l, test-is t, own w32 v k, toZ-ofZ (one-fits k g t))
+    pub turn-up : (ws : ℕ → Window) {x : List ℤ} → Windowed (ws (i - 1)) h → 0 < i → Less → x ≡ set vs (i - 1) (toZ w32 (ofZ w32 (toZ w32 (ofZ w32 v) +ℤ pos 1))) → x ≡ up ws i vs
+    unfolding pick
+    turn-up ws q l t e = e ∙ rw (up-at ws i vs l, ← (q .hi), test-is t, own w32 v k, toZ-ofZ (one-fits k g t))
 
-    pub turn-back : {x : List ℤ} → 0 < i → ltZ (toZ w32 (ofZ w32 v)) (toZ w32 (ofZ w32 (h .hi))) ≡ false → SFits w32 (h .lo) →
-        x ≡ up (windows h) (i - 1) (set vs (i - 1) (toZ w32 (ofZ w32 (h .lo)))) → x ≡ up (windows h) i vs
-    unfolding pick windows
-    turn-back l t f e = e ∙ rw (up-at (windows h) i vs l, test-is t, toZ-ofZ f)
+    pub turn-back : (ws : ℕ → Window) {x : List ℤ} → Windowed (ws (i - 1)) h → 0 < i → ltZ (toZ w32 (ofZ w32 v)) (toZ w32 (ofZ w32 (h .hi))) ≡ false → SFits w32 (h .lo) →
+        x ≡ up ws (i - 1) (set vs (i - 1) (toZ w32 (ofZ w32 (h .lo)))) → x ≡ up ws i vs
+    unfolding pick
+    turn-back ws q l t f e = e ∙ rw (up-at ws i vs l, ← (q .hi), test-is t, toZ-ofZ f, q .lo)
 
-pub turn-none : (h : Header) (vs : List ℤ) (i : ℕ) → i ≤ 0 → up (windows h) i vs ≡ vs
+pub turn-none : (ws : ℕ → Window) (vs : List ℤ) (i : ℕ) → i ≤ 0 → up ws i vs ≡ vs
 unfolding up
-turn-none h vs i l = let z : i ≡ 0 = omega arith in rw z
+turn-none ws vs i l = let z : i ≡ 0 = omega arith in rw z

@@ -9,22 +9,21 @@ use lib.ListN.{length, getD, take, drop, replicate, length-take, List·getD-map}
 use lib.Seq.{getD-take, getD-drop, length-take-le}
 use lib.Dec.{eqb}
 use lib.IntN.{ℤ, pos}
-use borrow.Author.Tests.{lt-ltb, eqb-false}
+use borrow.Author.Tests.{lt-ltb}
 use Rattle.meaning.specs.Constraint.{truth, holds}
 use Rattle.meaning.specs.Book.{at, atBody, head, body}
 use Rattle.cursor.specs.declared.Clause.{Clause}
 use Rattle.cursor.specs.Steps.{pick, valueThen}
 use Rattle.cursor.specs.Tree.{got}
-use Rattle.cursor.specs.Inverse.{pick-by}
 use Rattle.cursor.specs.Meaning.{atomIn, bodyIn, treeIn, clauseIn}
 use Rattle.cursor.specs.Sound.{Sound, Arguments}
+use Rattle.truth.specs.Front.{front-part, front-arguments, front-is-tree, front-tree}
 use Rattle.book.specs.declared.Header.{Header}
 use Rattle.book.specs.declared.Reading.the-variants.{Good}
-use Rattle.book.specs.Read.{read, topArity}
+use Rattle.book.specs.Read.{read}
 use Rattle.book.specs.Meaning.{bookIn}
-use Rattle.book.specs.Joined.{passed}
 use Rattle.book.specs.Trailer.{read-trailed}
-use Rattle.encode.specs.WrittenRecords.{arities-read}
+use Rattle.book.specs.Arities.{arity-small, arity-query}
 use Rattle.models.specs.Read.{Part, modelIn, rulesOf}
 use Rattle.models.specs.Walk.{step, satisfies, met, breaks}
 use Rattle.models.specs.Answer.{no-part}
@@ -52,26 +51,6 @@ arguments-more s v m p n h a = record { within = a .within; each = λ j l. omega
 -- ---- what an accepted book lends
 
 module _ (s : List ℕ) (h : Header) (good : read s ≡ Good h) where
-  -- relations have at most 8 places, the query none
-  arity-top : (r : ℕ) → r < h .relations → getD s r 0 ≤ topArity (h .query) r
-  arity-top r b =
-      let p = passed s h good in
-      let k = read-trailed s h good .kept in
-      let a = arities-read (take (h .start) s) (h .query) (h .relations) (record { at = 0; left = 0 }) (omega arith) (p .arities) in
-      let z : 0 + r ≡ r = omega arith in
-      let e : getD (take (h .start) s) r 0 ≡ getD s r 0 = getD-take (h .start) s r 0 (omega arith) in
-      rw e at (rw z at (a .each r b))
-
-  pub arity-small : (r : ℕ) → r < h .relations → getD s r 0 ≤ 8
-  unfolding topArity
-  arity-small r b = pick-by (λ n. getD s r 0 ≤ n → getD s r 0 ≤ 8) _ _ _ (λ t k. omega arith) (λ t k. k) (arity-top r b)
-
-  pub arity-query : getD s (h .query) 0 ≡ 0
-  unfolding topArity
-  arity-query =
-      let k = read-trailed s h good .kept in
-      pick-by (λ n. getD s (h .query) 0 ≤ n → getD s (h .query) 0 ≡ 0) _ _ _ (λ t k. omega arith) (λ t k. absurd (eqb-false (h .query) (h .query) t refl)) (arity-top (h .query) (k .query))
-
   -- ---- a relation in a model that was read
 
   module _ (t l : List ℕ) (st : Started t (take (h .relations) s) l) where
@@ -106,20 +85,23 @@ module _ (s : List ℕ) (h : Header) (good : read s ≡ Good h) where
     front-is r b = let k = read-trailed s h good .kept in getD-take (h .start) s r 0 (omega arith)
 
     module _ (v r seat : ℕ) (few : v ≤ 16) (b : r < h .relations) (a : Arguments front v (seat + 1) (getD front r 0)) where
-      arguments : Arguments front v (seat + 1) (getD s r 0)
-      arguments = rw (front-is r b) at a
+      read-arguments : Arguments front v (seat + 1) (getD s r 0)
+      read-arguments = rw (front-is r b) at a
 
-      side : Side front 16 t seat (getD s r 0) (getD l r 0)
+      arguments : Arguments s v (seat + 1) (getD s r 0)
+      arguments = front-arguments s (h .start) v (seat + 1) (getD s r 0) read-arguments
+
+      side : Side s 16 t seat (getD s r 0) (getD l r 0)
       side =
           let p = part-of r b in
-          record { small = arity-small r b; arguments = arguments-more front v 16 (seat + 1) (getD s r 0) few arguments; tree = rw (p .start) (p .tree) }
+          record { small = arity-small s h good r b; arguments = arguments-more s v 16 (seat + 1) (getD s r 0) few arguments; tree = rw (p .start) (p .tree) }
 
-      side-holds : (vs : List ℤ) → holds (placesOf front seat (getD s r 0) vs) (treeIn t (getD s r 0) (getD l r 0)) ≡ satisfies (rulesIn t ns) (at (take v vs) (atomIn front r seat))
+      side-holds : (vs : List ℤ) → holds (placesOf s seat (getD s r 0) vs) (treeIn t (getD s r 0) (getD l r 0)) ≡ satisfies (rulesIn t ns) (at (take v vs) (atomIn front r seat))
       unfolding satisfies atomIn placesOf
       side-holds vs =
           let p = part-of r b in
           let e : getD (rulesIn t ns) r truth ≡ treeIn t (getD s r 0) (getD l r 0) = rule-of r ∙ p .is ∙ ap (treeIn t (getD s r 0)) (sym (p .start)) in
-          rw (front-is r b, e, places-front front v seat (getD s r 0) vs arguments)
+          rw (front-is r b, e, front-part s (h .start) (seat + 1) (getD s r 0) (read-arguments .within), places-front s v seat (getD s r 0) vs arguments)
 
     -- ---- the task of a clause
 
@@ -148,26 +130,26 @@ module _ (s : List ℕ) (h : Header) (good : read s ≡ Good h) where
       body-half : (c .body ≡ 255 → ⊥) → k .body ≡ record { places = getD s (c .body) 0; rule = getD l (c .body) 0 }
       body-half n = w .body ∙ half-is (c .body) (bodied n .0)
 
-      pub ready : Ready front 16 t k
+      pub ready : Ready s 16 t k
       ready = record {
         few = few;
         room = few;
-        rule = so .tree;
+        rule = front-is-tree s (h .start) (c .variables) (c .rule) (so .tree);
         body = λ n. rw (body-half n) (side (c .variables) (c .body) (c .«body_at») few (bodied n .0) (bodied n .1));
         head = rw head-half (side (c .variables) (c .head) (c .«head_at») few (so .head) (so .arguments));
       }
 
-      met-is : (vs : List ℤ) → metIn front t k vs ≡ met (rulesIn t ns) (atBody (take (c .variables) vs) (bodyIn front (c .body) (c .«body_at»)))
+      met-is : (vs : List ℤ) → metIn s t k vs ≡ met (rulesIn t ns) (atBody (take (c .variables) vs) (bodyIn front (c .body) (c .«body_at»)))
       unfolding metIn bodyIn met pick
       met-is vs = go (eqb (c .body) 255) refl
         where
-          go : (e : Bool) → eqb (c .body) 255 ≡ e → metIn front t k vs ≡ met (rulesIn t ns) (atBody (take (c .variables) vs) (bodyIn front (c .body) (c .«body_at»)))
+          go : (e : Bool) → eqb (c .body) 255 ≡ e → metIn s t k vs ≡ met (rulesIn t ns) (atBody (take (c .variables) vs) (bodyIn front (c .body) (c .«body_at»)))
           go true e = rw e
           go false e =
               let n = eqb-false (c .body) 255 e in
               rw (e, body-half n) (side-holds (c .variables) (c .body) (c .«body_at») few (bodied n .0) (bodied n .1) vs)
 
-      head-is : (vs : List ℤ) → headIn front t k vs ≡ satisfies (rulesIn t ns) (at (take (c .variables) vs) (atomIn front (c .head) (c .«head_at»)))
+      head-is : (vs : List ℤ) → headIn s t k vs ≡ satisfies (rulesIn t ns) (at (take (c .variables) vs) (atomIn front (c .head) (c .«head_at»)))
       unfolding headIn
       head-is vs = rw head-half (side-holds (c .variables) (c .head) (c .«head_at») few (so .head) (so .arguments) vs)
 
@@ -176,9 +158,9 @@ module _ (s : List ℕ) (h : Header) (good : read s ≡ Good h) where
       both true y = refl
       both false y = refl
 
-      breaks-is : (vs : List ℤ) → breaksIn front t k vs ≡ breaks (bookIn s h) (rulesIn t ns) (step i (take (c .variables) vs))
+      breaks-is : (vs : List ℤ) → breaksIn s t k vs ≡ breaks (bookIn s h) (rulesIn t ns) (step i (take (c .variables) vs))
       unfolding breaksIn breaks body head clauseIn
-      breaks-is vs = rw (w .held .is, met-is vs, head-is vs, both, both)
+      breaks-is vs = rw (w .held .is, ← (front-tree s (h .start) (c .variables) (c .rule) (so .tree)), met-is vs, head-is vs, both, both)
 
       pub tasked : Tasked s h t i k
       unfolding bookIn

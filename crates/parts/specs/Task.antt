@@ -40,7 +40,7 @@ pub record Started (s ns l : List ℕ) : Type 0 where
 abbrev pub rulesIn : List ℕ → List ℕ → List Constraint
 rulesIn s ns = rulesOf (modelIn s ns)
 
--- ---- one assignment: s is the book up to the index, t the model's bytes, vs the values
+-- ---- one assignment: s is the book, t the model's bytes, vs the values
 
 -- the values of n arguments that stand after the seat
 unfoldable pub placesOf : List ℕ → ℕ → ℕ → List ℤ → List ℤ
@@ -90,6 +90,6 @@ pub record Taken (s : List ℕ) (h : Header) (i : ℕ) (l : List ℕ) (k : Task)
 -- the task k is that of clause i of the book s, with the model t
 pub record Tasked (s : List ℕ) (h : Header) (t : List ℕ) (i : ℕ) (k : Task) : Type 0 where
   pub held : Held s h i (k .clause)
-  pub ready : Ready (take (h .start) s) 16 t k
+  pub ready : Ready s 16 t k
   pub means : (vs : List ℤ) → k .clause .variables ≤ length vs →
-      breaksIn (take (h .start) s) t k vs ≡ breaks (bookIn s h) (rulesIn t (bookIn s h .arities)) (step i (take (k .clause .variables) vs))
+      breaksIn s t k vs ≡ breaks (bookIn s h) (rulesIn t (bookIn s h .arities)) (step i (take (k .clause .variables) vs))

@@ -13,7 +13,7 @@ use mir.Val.{hbits, toZ, ofZ}
 use mir.Facts.{toZ-ofZ}
 use lib.ListN.{length, set, drop, length-set, length-append}
 use lib.Seq.{set-out, sets, sets-eq}
-use Rattle.sexp.specs.Sexp.{Sexp, Sexps, _&&_, onto, spaced, items, linesOnto, lines, each}
+use Rattle.sexp.specs.Sexp.{Sexp, Sexps, _⧺_, onto, spaced, items, linesOnto, lines, each}
 use Rattle.sexp.specs.Split.{onto-split, spaced-split, spaced-and, lines-split, lines-and}
 use Rattle.put.specs.Room.{paste, sat, top, Wrote}
 use Rattle.put.specs.Number.{num}
@@ -102,18 +102,18 @@ module _ {d e f k : List ℕ} {at m r : ℕ} where
   rows {xs} u v = rw (lines-split xs k) at (join (u .text) v)
 
 -- items, more of them, and then k
-pub more : {d e f : List ℕ} {xs : Sexps} {at m r : ℕ} (ys : Sexps) (k : List ℕ) → Lists d e at m xs → Wrote e f m r (spaced ys k) → Wrote d f at r (spaced (xs && ys) k)
+pub more : {d e f : List ℕ} {xs : Sexps} {at m r : ℕ} (ys : Sexps) (k : List ℕ) → Lists d e at m xs → Wrote e f m r (spaced ys k) → Wrote d f at r (spaced (xs ⧺ ys) k)
 more ys k u v = rw spaced-and (all u v)
 
 -- lines, more of them, and then k
-pub more-rows : {d e f : List ℕ} {xs : Sexps} {at m r : ℕ} (ys : Sexps) (k : List ℕ) → Lines d e at m xs → Wrote e f m r (linesOnto ys k) → Wrote d f at r (linesOnto (xs && ys) k)
+pub more-rows : {d e f : List ℕ} {xs : Sexps} {at m r : ℕ} (ys : Sexps) (k : List ℕ) → Lines d e at m xs → Wrote e f m r (linesOnto ys k) → Wrote d f at r (linesOnto (xs ⧺ ys) k)
 more-rows ys k u v = rw lines-and (rows u v)
 
 module _ {d e f : List ℕ} {xs ys : Sexps} {at m r : ℕ} where
-  pub both : Lists d e at m xs → Lists e f m r ys → Lists d f at r (xs && ys)
+  pub both : Lists d e at m xs → Lists e f m r ys → Lists d f at r (xs ⧺ ys)
   both u v = record { text = more ys [] u (v .text) }
 
-  pub both-lines : Lines d e at m xs → Lines e f m r ys → Lines d f at r (xs && ys)
+  pub both-lines : Lines d e at m xs → Lines e f m r ys → Lines d f at r (xs ⧺ ys)
   both-lines u v = record { text = more-rows ys [] u (v .text) }
 
 -- ---- a loop: no item, those of one turn more, and all of them

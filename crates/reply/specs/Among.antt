@@ -4,7 +4,7 @@ use native.Mathlib.Omega.{arith}
 use mathlib.Core.Path.{_≡_, refl, sym, ap, _∙_}
 use mathlib.Core.Logic.{_↔_}
 use mathlib.Core.Bool.{Bool, true, false}
-use mathlib.Core.List.{List, [], _∷_}
+use mathlib.Core.List.{List, [], _∷_, _++_}
 use lib.Dec.{T, eqb, eqb→eq}
 use Rattle.reply.specs.declared.Refusal.{Refusal}
 use Rattle.reply.specs.declared.Answer as code
@@ -32,6 +32,25 @@ has-all ns (m ∷ ms) n a h = go (eqb n m) refl (has ns m) refl a h (has-all ns 
     go false p true q x y more = more x y
     go true p true q x y more = let e : n ≡ m = eqb→eq n m (rw p tt) in rw (e, q) tt
 
+-- among the numbers before, or behind
+pub has-before : (ms ns : List ℕ) (n : ℕ) → T (has ms n) → T (has (ms ++ ns) n)
+unfolding has
+has-before [] ns n h = absurd h
+has-before (m ∷ ms) ns n h = go (eqb n m) h (has-before ms ns n)
+  where
+    go : (t : Bool) → T (elim t [ true ↦ true | false ↦ has ms n ]) → (T (has ms n) → T (has (ms ++ ns) n)) → T (elim t [ true ↦ true | false ↦ has (ms ++ ns) n ])
+    go true h more = tt
+    go false h more = more h
+
+pub has-behind : (ms ns : List ℕ) (n : ℕ) → T (has ns n) → T (has (ms ++ ns) n)
+unfolding has
+has-behind [] ns n h = h
+has-behind (m ∷ ms) ns n h = go (eqb n m) (has-behind ms ns n h)
+  where
+    go : (t : Bool) → T (has (ms ++ ns) n) → T (elim t [ true ↦ true | false ↦ has (ms ++ ns) n ])
+    go true h = tt
+    go false h = h
+
 -- accepted with nothing written, or refused with one of the numbers ns
 pub record Among (ns : List ℕ) (a : Answer) : Type 0 where
   pub plain : {n : ℕ} → a ≡ done n → n ≡ 0
@@ -43,7 +62,7 @@ refused-not e = let z : _≡_ {A = ℕ} 0 1 = cc in omega arith
 pub among-ok : {ns : List ℕ} → Among ns ok
 among-ok = record { plain = λ e. cc; among = λ e. absurd (refused-not (sym e)) }
 
-among-refused : {ns : List ℕ} (n p : ℕ) → T (has ns n) → Among ns (refused n p)
+pub among-refused : {ns : List ℕ} (n p : ℕ) → T (has ns n) → Among ns (refused n p)
 among-refused n p h = record { plain = λ e. absurd (refused-not e); among = λ {n = m} e. let z : n ≡ m = cc in rw z at h }
 
 pub among-need : {ns : List ℕ} (t : Bool) (n p : ℕ) {a : Answer} → T (has ns n) → Among ns a → Among ns (need t n p a)

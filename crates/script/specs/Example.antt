@@ -6,7 +6,7 @@ use lib.IntN.{pos}
 use Rattle.meaning.specs.Constraint.{truth, equal}
 use Rattle.meaning.specs.Book.{Book, Clause, variableWindow}
 use Rattle.sexp.specs.Bytes.{bytes}
-use Rattle.sexp.specs.Sexp.{_&&_, onto, render, linesOnto, each}
+use Rattle.sexp.specs.Sexp.{_⧺_, onto, render, linesOnto, each}
 use Rattle.put.specs.Digits.{digits, digitsUpTo}
 use Rattle.put.specs.Number.{num}
 use Rattle.script.specs.Names.{flagName, placeName, inputName, next, inState, pairName}
@@ -25,7 +25,7 @@ least = record {
 }
 
 pub least-text : text least ≡ bytes "(declare-fun l0 () Bool)\n(declare-fun l0n () Bool)\n(define-fun sl0 () Bool (! l0 :next l0n))\n(define-fun init () Bool (! (and true (not l0)) :init true))\n(define-fun trans () Bool (! (or false false (and true true l0n)) :trans true))\n(define-fun prop () Bool (! (not l0) :invar-property 0))\n"
-unfolding text script onto linesOnto _&&_ each digits digitsUpTo flagName next inState pairName stateLines relationLines inputLines denied placeLimits initLine atomItems bodyItems frame frameBut clausePart clausePartOf transLine propLine constraint
+unfolding text script onto linesOnto _⧺_ each digits digitsUpTo flagName next inState pairName stateLines relationLines inputLines denied placeLimits initLine atomItems bodyItems frame frameBut clausePart clausePartOf transLine propLine constraint
 least-text = refl
 
 -- clause 0 of book B: variable 0 is 0, and the head is relation 0 at it
@@ -39,5 +39,5 @@ first = record {
 
 pub first-part : render (clausePart (λ _. record { lo = pos 0; hi = pos 3 }) (1 ∷ 0 ∷ []) 0 first)
     ≡ bytes "(and true (<= 0 y0_0) (<= y0_0 3) (= (+ 0 0 (* 1 y0_0)) 0) l0n (= p0_0n y0_0) (= l1n l1))"
-unfolding onto _&&_ each digits digitsUpTo num flagName placeName inputName next inState limits same product sum compared constraint argument atomItems bodyItems frame frameBut inputLimits clausePart
+unfolding onto _⧺_ each digits digitsUpTo num flagName placeName inputName next inState limits same product sum compared constraint argument atomItems bodyItems frame frameBut inputLimits clausePart
 first-part = refl

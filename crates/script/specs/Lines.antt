@@ -8,7 +8,7 @@ use lib.ListN.{length}
 use lib.Dec.{eqb}
 use Rattle.meaning.specs.Book.{Atom, Clause, Book, Window, none-such, variableWindow}
 use Rattle.sexp.specs.Bytes.{bytes}
-use Rattle.sexp.specs.Sexp.{Sexp, Sexps, word, list, end, _&_, _&&_, each, over, w}
+use Rattle.sexp.specs.Sexp.{Sexp, Sexps, word, list, end, _&_, _⧺_, each, over, w}
 use Rattle.script.specs.Names.{flagName, placeName, inputName, next, inState, pairName}
 use Rattle.script.specs.Terms.{limits, same, kept, constraint}
 
@@ -37,7 +37,7 @@ placeLines r i = stateLines "Int" (placeName r i)
 
 -- relation r, which has a places
 unfoldable pub relationLines : ℕ → ℕ → Sexps
-relationLines r a = stateLines "Bool" (flagName r) && each a (placeLines r)
+relationLines r a = stateLines "Bool" (flagName r) ⧺ each a (placeLines r)
 
 unfoldable pub inputLine : ℕ → ℕ → Sexps
 inputLine k i = declare (inputName k i) "Int" & end
@@ -57,7 +57,7 @@ placeLimits o r a = each a (λ i. limits (o r i) (placeName r i))
 unfoldable pub initLine : (ℕ → ℕ → Window) → List ℕ → Sexp
 initLine o arities =
     define (bytes "init") "Bool"
-    (noted (list (w "and" & w "true" & (each (length arities) denied && over 0 arities (placeLimits o)))) ":init" (w "true"))
+    (noted (list (w "and" & w "true" & (each (length arities) denied ⧺ over 0 arities (placeLimits o)))) ":init" (w "true"))
 
 -- ---- the part of clause k in `trans`, where o is the window of each variable
 
@@ -94,10 +94,10 @@ unfoldable pub clausePart : (ℕ → Window) → List ℕ → ℕ → Clause →
 clausePart o arities k c =
     list (w "and" & w "true"
     & (each (c .vars) (inputLimits o k)
-    && (constraint k (c .rule)
+    ⧺ (constraint k (c .rule)
     & (bodyItems k (c .body)
-    && (atomItems true k (c .head)
-    && over 0 arities (frameBut (c .head .rel)))))))
+    ⧺ (atomItems true k (c .head)
+    ⧺ over 0 arities (frameBut (c .head .rel)))))))
 
 -- ---- `trans` and `prop`
 

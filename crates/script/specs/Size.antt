@@ -12,7 +12,7 @@ use lib.ListN.{length, getD, length-append}
 use Rattle.meaning.specs.Constraint.{Sum, Constraint, truth, at-most, equal, not, and, or, remainder}
 use Rattle.meaning.specs.Book.{Atom, Clause, Book, Window, none-such, placeWindow, variableWindow}
 use Rattle.sexp.specs.Bytes.{bytes}
-use Rattle.sexp.specs.Sexp.{Sexps, end, _&_, _&&_, each, over}
+use Rattle.sexp.specs.Sexp.{Sexps, end, _&_, _⧺_, each, over}
 use Rattle.sexp.specs.Size.{cost, costs, lines-size, costs-and, costs-each}
 use Rattle.put.specs.Digits.{digits, digits-size}
 use Rattle.put.specs.Number.{num}
@@ -229,8 +229,8 @@ module _ (b : Book) (small : SmallBook b) where
         h .rule k short,
         body-size k short (c .body) (h .body),
         atom-size true k short (c .head) (h .head),
-        costs-and (each (c .vars) (inputLimits (variableWindow b c) k)) (constraint k (c .rule) & (bodyItems k (c .body) && (atomItems true k (c .head) && over 0 (b .arities) (frameBut (c .head .rel))))),
-        costs-and (bodyItems k (c .body)) (atomItems true k (c .head) && over 0 (b .arities) (frameBut (c .head .rel))),
+        costs-and (each (c .vars) (inputLimits (variableWindow b c) k)) (constraint k (c .rule) & (bodyItems k (c .body) ⧺ (atomItems true k (c .head) ⧺ over 0 (b .arities) (frameBut (c .head .rel))))),
+        costs-and (bodyItems k (c .body)) (atomItems true k (c .head) ⧺ over 0 (b .arities) (frameBut (c .head .rel))),
         costs-and (atomItems true k (c .head)) (over 0 (b .arities) (frameBut (c .head .rel))),
       )
 
@@ -273,6 +273,6 @@ module _ (b : Book) (small : SmallBook b) where
         init-size,
         trans-size,
         prop-size,
-        costs-and (over 0 (b .arities) relationLines) (over none-such (b .clauses) inputLines && rest),
+        costs-and (over 0 (b .arities) relationLines) (over none-such (b .clauses) inputLines ⧺ rest),
         costs-and (over none-such (b .clauses) inputLines) rest,
       )

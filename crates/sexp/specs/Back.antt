@@ -5,7 +5,7 @@ use mathlib.Core.Path.{_≡_, refl, ap, _∙_}
 use mathlib.Core.Bool.{Bool, true, false}
 use Prim.Native.Nat.{ℕ, zero, suc, _<_}
 use native.Mathlib.Omega.{arith}
-use Rattle.sexp.specs.Sexp.{Sexp, Sexps, word, list, end, _&_, _&&_, onto, inside, render, spaced, linesOnto, lines, each}
+use Rattle.sexp.specs.Sexp.{Sexp, Sexps, word, list, end, _&_, _⧺_, onto, inside, render, spaced, linesOnto, lines, each}
 use Rattle.sexp.specs.Parse.{kindOf, letter, Token, name, extend, before, tokens, pile, onWord, onClose, onOpen, said, whole, parse, both, isLetter, opening, closing, blank, odd, Kind, letters, isName, plain, plains}
 
 clash : false ≡ true → ⊥
@@ -38,8 +38,8 @@ name-token b (c ∷ t) k h e =
     rw (is-letter (kindOf b) (fst (isLetter (kindOf b)) (letters (c ∷ t)) h))
     (ap (λ (ts : List Token). extend b ts) (name-token c t k (snd (isLetter (kindOf b)) h) e))
 
-and-end : (xs : Sexps) → xs && end ≡ xs
-unfolding _&&_
+and-end : (xs : Sexps) → xs ⧺ end ≡ xs
+unfolding _⧺_
 and-end end = refl
 and-end (x & xs) = ap (λ (ys : Sexps). x & ys) (and-end xs)
 
@@ -62,7 +62,7 @@ none-ends b = refl
 
 -- before what says ys, the text of x says x and ys
 mutual
-  unfolding onto tokens kindOf before extend said onWord onClose onOpen letters isName plain Ends _&&_
+  unfolding onto tokens kindOf before extend said onWord onClose onOpen letters isName plain Ends _⧺_
 
   said-onto : (x : Sexp) → plain x ≡ true → (k : List ℕ) → Ends k → (ys : Sexps) (up : List Sexps) → said (tokens k) ≡ pile ys up → said (tokens (onto x k)) ≡ pile (x & ys) up
   said-onto (word []) p k e ys up h = absurd (clash p)
@@ -77,10 +77,10 @@ mutual
       (said-spaced xs (snd (plain x) p) (41 ∷ k) (shut-ends k) end (ys ∷ up) (ap onClose h) ∙ ap (λ (zs : Sexps). pile zs (ys ∷ up)) (and-end xs))
 
   said-spaced : (xs : Sexps) → plains xs ≡ true → (k : List ℕ) → Ends k → (ys : Sexps) (up : List Sexps) → said (tokens k) ≡ pile ys up →
-      said (tokens (spaced xs k)) ≡ pile (xs && ys) up
+      said (tokens (spaced xs k)) ≡ pile (xs ⧺ ys) up
   said-spaced end p k e ys up h = h
   said-spaced (x & xs) p k e ys up h =
-      said-onto x (fst (plain x) (plains xs) p) (spaced xs k) (spaced-ends xs k e) (xs && ys) up (said-spaced xs (snd (plain x) p) k e ys up h)
+      said-onto x (fst (plain x) (plains xs) p) (spaced xs k) (spaced-ends xs k e) (xs ⧺ ys) up (said-spaced xs (snd (plain x) p) k e ys up h)
 
 -- parsing gives back one S-expression
 pub parse-render : (x : Sexp) → plain x ≡ true → parse (render x) ≡ some (x & end)
@@ -99,8 +99,8 @@ parse-lines xs p = ap whole (said-lines xs p)
 
 -- ---- which S-expressions are plain
 
-pub plains-and : (xs ys : Sexps) → plains xs ≡ true → plains ys ≡ true → plains (xs && ys) ≡ true
-unfolding plain _&&_
+pub plains-and : (xs ys : Sexps) → plains xs ≡ true → plains ys ≡ true → plains (xs ⧺ ys) ≡ true
+unfolding plain _⧺_
 plains-and end ys p q = q
 plains-and (x & xs) ys p q = rw (fst (plain x) (plains xs) p) (plains-and xs ys (snd (plain x) p) q)
 

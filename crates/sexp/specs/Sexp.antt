@@ -6,7 +6,7 @@ use lib.ListN.{length, getD}
 use Rattle.sexp.specs.Bytes.{bytes}
 
 infixr 60 _&_
-infixr 55 _&&_
+infixr 55 _⧺_
 mutual
   pub data Sexp : Type 0 where
     word : List ℕ → Sexp
@@ -53,14 +53,15 @@ lines xs = linesOnto xs []
 
 -- ---- lists of S-expressions
 
-unfoldable pub _&&_ : Sexps → Sexps → Sexps
-_&&_ end ys = ys
-_&&_ (x & xs) ys = x & (xs && ys)
+-- one list after the other
+unfoldable pub _⧺_ : Sexps → Sexps → Sexps
+_⧺_ end ys = ys
+_⧺_ (x & xs) ys = x & (xs ⧺ ys)
 
 -- those of f 0, f 1, .. n of them
 unfoldable pub each : ℕ → (ℕ → Sexps) → Sexps
 each zero f = end
-each (suc n) f = each n f && f n
+each (suc n) f = each n f ⧺ f n
 
 -- those of f 0 a, f 1 b, .. for the elements a, b, .. of a list
 abbrev pub over : {A : Type 0} → A → List A → (ℕ → A → Sexps) → Sexps

@@ -5,7 +5,7 @@ use Prim.Native.Nat.{ℕ, zero, suc, _+_, _*_, _≤_, _<_}
 use native.Mathlib.Nat.{suc-mul}
 use native.Mathlib.Omega.{arith}
 use lib.ListN.{length, length-append}
-use Rattle.sexp.specs.Sexp.{Sexp, Sexps, word, list, end, _&_, _&&_, onto, inside, spaced, linesOnto, lines, each}
+use Rattle.sexp.specs.Sexp.{Sexp, Sexps, word, list, end, _&_, _⧺_, onto, inside, spaced, linesOnto, lines, each}
 
 -- each S-expression with what separates it from the next
 unfoldable mutual
@@ -37,8 +37,8 @@ unfolding linesOnto cost
 lines-size end = omega arith
 lines-size (x & xs) = omega (arith, onto-size x (10 ∷ lines xs), lines-size xs)
 
-pub costs-and : (xs ys : Sexps) → costs (xs && ys) ≡ costs xs + costs ys
-unfolding cost _&&_
+pub costs-and : (xs ys : Sexps) → costs (xs ⧺ ys) ≡ costs xs + costs ys
+unfolding cost _⧺_
 costs-and end ys = omega arith
 costs-and (x & xs) ys = omega (arith, costs-and xs ys)
 

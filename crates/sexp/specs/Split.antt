@@ -6,7 +6,7 @@ use native.Mathlib.Nat.{zero-add}
 use native.Mathlib.Omega.{arith}
 use lib.ListN.{length, getD, take, drop, length-take, length-drop}
 use lib.Seq.{getD-take, getD-drop}
-use Rattle.sexp.specs.Sexp.{Sexp, Sexps, word, list, end, _&_, _&&_, onto, inside, render, spaced, items, linesOnto, lines, each, over}
+use Rattle.sexp.specs.Sexp.{Sexp, Sexps, word, list, end, _&_, _⧺_, onto, inside, render, spaced, items, linesOnto, lines, each, over}
 
 mutual
   unfolding onto
@@ -37,13 +37,13 @@ spaced-split xs k = sym (spaced-append xs [] k)
 pub lines-split : (xs : Sexps) (k : List ℕ) → lines xs ++ k ≡ linesOnto xs k
 lines-split xs k = sym (lines-append xs [] k)
 
-pub spaced-and : (xs ys : Sexps) (k : List ℕ) → spaced (xs && ys) k ≡ spaced xs (spaced ys k)
-unfolding onto _&&_
+pub spaced-and : (xs ys : Sexps) (k : List ℕ) → spaced (xs ⧺ ys) k ≡ spaced xs (spaced ys k)
+unfolding onto _⧺_
 spaced-and end ys k = refl
 spaced-and (x & xs) ys k = ap (λ (s : List ℕ). 32 ∷ onto x s) (spaced-and xs ys k)
 
-pub lines-and : (xs ys : Sexps) (k : List ℕ) → linesOnto (xs && ys) k ≡ linesOnto xs (linesOnto ys k)
-unfolding linesOnto _&&_
+pub lines-and : (xs ys : Sexps) (k : List ℕ) → linesOnto (xs ⧺ ys) k ≡ linesOnto xs (linesOnto ys k)
+unfolding linesOnto _⧺_
 lines-and end ys k = refl
 lines-and (x & xs) ys k = ap (λ (s : List ℕ). onto x (10 ∷ s)) (lines-and xs ys k)
 
@@ -52,7 +52,7 @@ lines-and (x & xs) ys k = ap (λ (s : List ℕ). onto x (10 ∷ s)) (lines-and x
 pub each-same : (n : ℕ) (f g : ℕ → Sexps) → ((i : ℕ) → i < n → f i ≡ g i) → each n f ≡ each n g
 unfolding each
 each-same zero f g h = refl
-each-same (suc n) f g h = ap₂ (λ (xs ys : Sexps). xs && ys) (each-same n f g (λ i l. h i (omega arith))) (h n (omega arith))
+each-same (suc n) f g h = ap₂ (λ (xs ys : Sexps). xs ⧺ ys) (each-same n f g (λ i l. h i (omega arith))) (h n (omega arith))
 
 -- the elements of a part of a list
 pub over-part : {A : Type 0} (d : A) (s : List A) (from m : ℕ) (f : ℕ → A → Sexps) → from + m ≤ length s →

@@ -1,25 +1,19 @@
--- The starts of a list's steps, and the clause that each is by.
+-- The starts of a list's steps, and the row of each one's clause.
 use mathlib.Core.Path.{_≡_, sym, ap}
-use mathlib.Core.Logic.{_⊎_, inl, inr}
-use mathlib.Core.List.{List}
+use mathlib.Core.List.{List, []}
 use Prim.Native.Nat.{ℕ, zero, suc, _+_, _*_, _≤_, _<_}
 use native.Mathlib.Nat.{add-zero, add-suc}
 use native.Mathlib.Omega.{arith}
-use lib.ListN.{length, getD, take}
-use lib.IntN.{ℤ}
-use Rattle.meaning.specs.Book as meant
+use lib.ListN.{length, getD}
+use lib.IntN.{ℤ, pos}
 use Rattle.meaning.specs.Book.{Book}
-use Rattle.lists.specs.Instance.{clauseAt}
 use Rattle.lists.specs.Places.{after, start, start-first, start-next}
-use Rattle.cursor.specs.declared.Clause.{Clause}
-use Rattle.cursor.specs.Meaning.{clauseIn, atomIn}
-use Rattle.cursor.specs.Sound.{Arguments}
 use Rattle.book.specs.declared.Header.{Header}
-use Rattle.book.specs.declared.Reading.the-variants.{Good}
-use Rattle.book.specs.Read.{read}
 use Rattle.book.specs.Meaning.{bookIn}
-use Rattle.book.specs.Joined.{Held, count-is}
-use Rattle.book.specs.Trailer.{read-trailed}
+use Rattle.book.specs.Joined.{count-is}
+use Rattle.table.specs.Table.{Row, Tabled}
+use Rattle.instance.specs.Values.{numberOr, numberIn}
+use Rattle.instance.proofs.Laws.{number-is}
 use Rattle.steps.specs.Walk.{Here, Walk}
 
 module _ (b : Book) (z : ℕ) (l : List ℤ) (i : ℕ) where
@@ -39,26 +33,22 @@ module _ (b : Book) (z : ℕ) (l : List ℤ) (i : ℕ) where
   start-long h zero = omega arith
   start-long h (suc k) = omega (arith, start-long h k)
 
--- ---- a clause that was read is the clause of the meaning's book
+-- ---- the step at place i: k is its clause's number, as the code has it
 
-module _ (s : List ℕ) (h : Header) (k : ℕ) (c : Clause) (w : Held s h k c) where
-  pub vars-of : clauseAt (bookIn s h) k .vars ≡ c .variables
-  unfolding clauseIn
-  vars-of = ap (λ (y : meant.Clause). y .vars) (w .is)
+module _ {s : List ℕ} {h : Header} {t : List (List ℕ)} (w : Tabled s h t) {l : List ℤ} {z i : ℕ} (x : Here s h l z i) {k : ℕ} (q : k ≡ numberOr (h .count) (getD l i (pos 0))) where
+  same : numberIn s h l i ≡ k
+  same = number-is s h (w .good) l i q
 
-  pub head-of : clauseAt (bookIn s h) k .head .rel ≡ c .head
-  unfolding clauseIn atomIn
-  head-of = ap (λ (y : meant.Clause). y .head .rel) (w .is)
+  pub here-below : k < h .count
+  here-below = rw same at (x .there)
 
-  pub head-small : read s ≡ Good h → c .head < 16
-  head-small good = let t = read-trailed s h good .kept in omega (arith, w .sound .head)
+  -- a row of the table
+  pub here-cell : k < 64
+  here-cell = omega (arith, here-below, w .few)
 
-  pub body-small : read s ≡ Good h → (c .body ≡ 255 → ⊥) → c .body < 16
-  body-small good n = go (w .sound .body)
-    where
-      go : (c .body ≡ 255) ⊎ ((c .body < h .relations) × Arguments (take (h .start) s) (c .variables) (c .«body_at» + 1) (getD (take (h .start) s) (c .body) 0)) → c .body < 16
-      go (inl e) = absurd (n e)
-      go (inr (b, _)) = let t = read-trailed s h good .kept in omega (arith, b)
+  -- that of the step's clause
+  pub here-row : Row s h (numberIn s h l i) (getD t k [])
+  here-row = rw same (w .row k here-below)
 
 -- ---- the steps of a walk
 

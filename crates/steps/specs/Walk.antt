@@ -10,7 +10,7 @@ use Rattle.book.specs.declared.Header.{Header}
 use Rattle.book.specs.declared.Reading.the-variants.{Good}
 use Rattle.book.specs.Read.{read}
 use Rattle.book.specs.Meaning.{bookIn}
-use Rattle.facts.specs.Instance.{numberIn}
+use Rattle.instance.specs.Values.{numberIn}
 
 -- a step by a clause of the book stands at place i, and z numbers after it
 pub record Here (s : List ℕ) (h : Header) (l : List ℤ) (z i : ℕ) : Type 0 where

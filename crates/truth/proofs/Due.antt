@@ -14,10 +14,11 @@ use Rattle.cursor.specs.Steps.{pick}
 use Rattle.cursor.specs.Tree.{Got}
 use Rattle.cursor.specs.Meaning.{treeOf, treeIn}
 use Rattle.cursor.specs.Sound.{IsTree}
+use Rattle.truth.specs.declared.Leaf.{Leaf}
 use Rattle.truth.specs.declared.Waiting.{Waiting}
-use Rattle.truth.specs.Stood.{joinsOf, sizeOf, leafOf, join, Alone, Stood, Row, none, Rowed, Ended}
+use Rattle.truth.specs.Stood.{joinsOf, sizeOf, leafOf, join, Alone, Judged, Stood, Row, none, Rowed, Ended}
 use Rattle.truth.specs.Sides.{sameOf, Side, bitsOf, code, until, Opened}
-use Rattle.truth.proofs.Laws.{within, alone-by, turned-by, joined-by, op, joint-of}
+use Rattle.truth.proofs.Laws.{low-plain, within, alone-by, turned-by, joined-by, op, joint-of}
 use Rattle.truth.proofs.Rows.{row-long, row-last}
 use Rattle.truth.proofs.Trees.{tree-stands, tree-deep}
 use Rattle.truth.proofs.Sides.{code-more, code-rest, code-want, code-fits, until-here, until-on}
@@ -179,13 +180,29 @@ module _ (s : List ℕ) (v : ℕ) (xs : List ℤ) (whole t : Bool) (a : ℕ) whe
   outcome-next (done e) l w = absurd (let z : ⊥ = omega arith in z)
   outcome-next (next f {fs} x d) l w = record { list = fs; is = code-rest f fs; due = rw (code-want f fs, w .is x) d }
 
--- a constraint with none below it, whose truth is j and whose size is z
-pub outcome-leaf : (s : List ℕ) (v : ℕ) (xs : List ℤ) (whole : Bool) (sides a : ℕ) (want : Bool) {f j t : Bool} {z : ℕ} {r : Waiting} → Waited s v xs whole sides a want →
-    f ≡ joinsOf (getD s a 0) → (getD s a 0 ≡ 3 → ⊥) → f ≡ false → j ≡ holds xs (leafOf s v a (getD s a 0)) → t ≡ sameOf want j → z ≡ sizeOf (getD s a 0) v →
-    Opened sides t r → Outcome s v xs whole t (a + z) r
-outcome-leaf s v xs whole sides a want {t = t} {z = z} {r = r} y e h g i k l o =
-    alone-by s v a (λ u q. Waits s v xs whole (y .list) q (sameOf want (holds xs u)) → Outcome s v xs whole t (a + z) r) h (sym e ∙ g)
-    (λ _ w. rw (o .is (y .list) (y .is)) (outcome s v xs whole t (a + z) (y .list) none (rw (← i, ← k, ← l) at w)))
+-- a constraint with none below it, of which l is told
+pub outcome-leaf : (s : List ℕ) (v : ℕ) (xs : List ℤ) (whole : Bool) (sides a : ℕ) (want : Bool) {f t : Bool} {l : Leaf} {r : Waiting} → Waited s v xs whole sides a want →
+    f ≡ joinsOf (getD s a 0) → (getD s a 0 ≡ 3 → ⊥) → f ≡ false → Judged s v a (getD s a 0) xs l → t ≡ sameOf want (l .met) →
+    Opened sides t r → Outcome s v xs whole t (l .past) r
+outcome-leaf s v xs whole sides a want {t = t} {l = l} {r = r} y e h g i k o =
+    alone-by s v a (λ u q. Waits s v xs whole (y .list) q (sameOf want (holds xs u)) → Outcome s v xs whole t (l .past) r) h (sym e ∙ g)
+    (λ _ w. rw (o .is (y .list) (y .is)) (outcome s v xs whole t (l .past) (y .list) none (rw (← (i .is), ← k, ← (i .past)) at w)))
     (y .due .stood) (y .due .waits)
+
+-- a constraint of the first three kinds is judged without a walk
+module _ (s : List ℕ) (v p : ℕ) (w : IsTree s v p) where
+  pub low-here : p < length s
+  low-here = omega (arith, within (tree-stands s v p w))
+
+  module _ (h : getD s p 0 < 3) where
+    by-leaf : (P : Constraint → ℕ → Type 0) → (Alone s v p (getD s p 0) → P (leafOf s v p (getD s p 0)) (p + sizeOf (getD s p 0) v)) → P (w .tree) (w .end .at)
+    by-leaf P k = alone-by s v p P (λ e. omega arith) (low-plain (getD s p 0) h) k (tree-stands s v p w)
+
+    pub low-alone : Alone s v p (getD s p 0)
+    low-alone = by-leaf (λ _ _. Alone s v p (getD s p 0)) (λ a. a)
+
+    pub low-is : (xs : List ℤ) {l : Leaf} → Judged s v p (getD s p 0) xs l → l .met ≡ holds xs (treeIn s v p)
+    unfolding treeIn treeOf
+    low-is xs {l} j = by-leaf (λ t _. l .met ≡ holds xs t) (λ _. j .is) ∙ ap (λ (y : Got Constraint). holds xs (treeOf y)) (sym (w .reads))
 
 pub ruleset waiting = (waited-tree, waited-turned, waited-joined)

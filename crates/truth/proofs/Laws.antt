@@ -82,6 +82,10 @@ large k a b c d e =
     let g : k ≡ 5 → ⊥ = λ h. no-joint false h e in
     omega arith
 
+pub low-plain : (k : ℕ) → k < 3 → joinsOf k ≡ false
+unfolding joinsOf
+low-plain k h = rw (ne-eqb k 4 (λ e. omega arith), ne-eqb k 5 (λ e. omega arith))
+
 -- ---- leaves
 
 module _ (s : List ℕ) (v p k : ℕ) (w : Alone s v p k) (a : k ≡ 0 → ⊥) where
@@ -133,6 +137,32 @@ module _ (s : List ℕ) (v p k : ℕ) (xs : List ℤ) {x : Bool} where
     leaf-remainder a b c f g e = rw (ne-eqb k 0 a, ne-eqb k 1 b, ne-eqb k 2 c, ← f, ← g) (e ∙ ap (leaves _ _) (read w64 fits z .is))
 
 pub ruleset leaf-laws = (leaf-true, leaf-at-most, leaf-equal, leaf-remainder)
+
+-- where it ends
+module _ (s : List ℕ) (v p k : ℕ) where
+  pub past-true : k ≡ 0 → p + 1 ≡ p + sizeOf k v
+  unfolding sizeOf pick
+  past-true h = rw h
+
+  past-low : (k ≡ 0 → ⊥) → k < 3 → p + 5 + v * 2 ≡ p + sizeOf k v
+  unfolding sizeOf pick
+  past-low a h = rw (ne-eqb k 0 a, lt-ltb k 3 h) (omega arith)
+
+  pub past-at-most : k ≡ 1 → p + 5 + v * 2 ≡ p + sizeOf k v
+  past-at-most h = past-low (λ e. omega arith) (omega arith)
+
+  pub past-equal : k ≡ 2 → p + 5 + v * 2 ≡ p + sizeOf k v
+  past-equal h = past-low (λ e. omega arith) (omega arith)
+
+  pub past-remainder : Alone s v p k → (k ≡ 0 → ⊥) → (k ≡ 1 → ⊥) → (k ≡ 2 → ⊥) → p + 5 + v * 2 + 4 ≡ p + sizeOf k v
+  unfolding sizeOf pick
+  past-remainder w a b c =
+      let six = large k a b c (w .single) (w .plain) in
+      let below : 3 ≤ k = omega arith in
+      let least : 6 ≤ k = omega arith in
+      rw (ne-eqb k 0 a, le-ltb k 3 below, le-ltb k 6 least) (omega arith)
+
+pub ruleset past-laws = (past-true, past-at-most, past-equal, past-remainder)
 
 -- ---- a constraint that stands at p, by its kind
 

@@ -1,9 +1,10 @@
--- A constraint that stands in the front of a list stands in the whole of it, and is the same.
+-- What stands in the front of a list stands in the whole of it, and is the same: a constraint, and an atom's arguments.
 use Prim.Native.Nat.{ℕ, zero, suc, _+_, _*_, _<_, _≤_}
 use native.Mathlib.Omega.{arith}
 use mathlib.Core.Path.{_≡_, refl, sym, ap, ap₂, _∙_}
 use mathlib.Core.List.{List}
-use lib.ListN.{length, getD, take, length-take}
+use lib.ListN.{length, getD, take, drop, length-take, length-drop}
+use lib.Seq.{take-suc, getD-drop}
 use lib.Dec.{eqb}
 use mathlib.Core.Bool.{false}
 use borrow.Author.Tests.{lt-ltb, le-leb}
@@ -21,7 +22,7 @@ use Rattle.cursor.specs.Steps.{pick, kinds, byteThen, numberThen, stepThen, nod
 use Rattle.cursor.specs.Tree.{got, then, coefficientsAt, sumOf, grow, treeAt}
 use Rattle.cursor.specs.Meaning.{treeOf, treeIn}
 use Rattle.cursor.specs.Inverse.{IsNode, IsData, kindOf, pick-then, pick-else, kinds-by, byte-went, number-went, step-went, node-went, then-went, no-byte, no-number, no-step, no-node, no-tree, byte-read, skip-read, number-read, node-read}
-use Rattle.cursor.specs.Sound.{IsTree}
+use Rattle.cursor.specs.Sound.{Arguments, IsTree}
 
 module _ (s : List ℕ) (j : ℕ) where
   abbrev f : List ℕ
@@ -29,6 +30,27 @@ module _ (s : List ℕ) (j : ℕ) where
 
   inside : (n : ℕ) → n ≤ length f → n ≤ length s
   inside n h = let z = length-take j s in omega arith
+
+  -- ---- arguments
+
+  pub front-part : (p n : ℕ) → p + n ≤ length f → take n (drop p f) ≡ take n (drop p s)
+  front-part p zero h = refl
+  front-part p (suc n) h =
+      let z = length-take j s in
+      rw (
+        take-suc (drop p f) n 0 (omega (arith, length-drop p f)),
+        take-suc (drop p s) n 0 (omega (arith, length-drop p s)),
+        front-part p n (omega arith),
+        getD-drop p f n 0,
+        getD-drop p s n 0,
+        front-byte s j (p + n) (omega arith) .1,
+      )
+
+  pub front-arguments : (v p n : ℕ) → Arguments f v p n → Arguments s v p n
+  front-arguments v p n a = record {
+    within = inside _ (a .within);
+    each = λ i k. rw (front-byte s j (p + i) (omega (arith, a .within)) .1) at (a .each i k);
+  }
 
   -- ---- numbers
 

@@ -4,11 +4,13 @@ use mathlib.Core.Path.{_≡_}
 use mathlib.Core.List.{List}
 use mathlib.Core.Bool.{Bool, true, false, _||_}
 use lib.ListN.{length, getD}
+use lib.IntN.{ℤ}
 use lib.Dec.{eqb, ltb}
-use Rattle.meaning.specs.Constraint.{Constraint, truth, at-most, equal, not, and, or, remainder}
+use Rattle.meaning.specs.Constraint.{Constraint, holds, truth, at-most, equal, not, and, or, remainder}
 use Rattle.whole.specs.Bytes.{u16At}
 use Rattle.cursor.specs.Steps.{pick}
 use Rattle.cursor.specs.Tree.{sumOf}
+use Rattle.truth.specs.declared.Leaf.{Leaf}
 
 -- ---- kinds
 
@@ -49,6 +51,11 @@ pub record Alone (s : List ℕ) (v p k : ℕ) : Type 0 where
   pub single : k ≡ 3 → ⊥
   pub plain : joinsOf k ≡ false
   pub divisor : 5 < k → 0 < u16At s (p + 5 + v * 2)
+
+-- what is told of such a constraint: whether it is true of xs, and where it ends
+pub record Judged (s : List ℕ) (v p k : ℕ) (xs : List ℤ) (r : Leaf) : Type 0 where
+  pub is : r .met ≡ holds xs (leafOf s v p k)
+  pub past : r .past ≡ p + sizeOf k v
 
 -- the constraint t stands at p and ends at q
 pub data Stood (s : List ℕ) (v : ℕ) : ℕ → Constraint → ℕ → Type 0 where

@@ -9,7 +9,7 @@ ghost use Rattle.meaning.specs.Constraint.{atMost0, is0, leaves, valueOf, holds
 ghost use Rattle.cursor.specs.Tree.{sumOf};
 ghost use Rattle.cursor.specs.Sound.{IsTree};
 ghost use Rattle.cursor.specs.Meaning.{treeIn};
-ghost use Rattle.truth.specs.Stood.{joinsOf, sizeOf, partsOf, leafOf, Alone, Rowed, Ended};
+ghost use Rattle.truth.specs.Stood.{joinsOf, sizeOf, partsOf, Alone, Judged, Rowed, Ended};
 ghost use Rattle.truth.specs.Sides.{sameOf, bitsOf, Opened};
 
 // the i-th value
@@ -25,11 +25,14 @@ fn sum(s: &[u8], at: usize, v: usize, values: &[i32], from: usize) -> i64
     requires { ⌜ (v ≤ 16) × ((at + (v * 2 + 4) ≤ length (now s)) × (from + v ≤ length (now values))) ⌝ }
     ensures { λ r. ⌜ Sized (valueOf (sumOf (now (s .entry)) v at) (take v (drop from (now (values .entry))))) 1125902054326272 r ⌝ }
 {
-    let mut acc = whole::i32_at(s, at + v * 2);
-    let mut k = 0;
-    while k < v {
-        acc += whole::i16_at(s, at + k * 2) * value_at(values, from + k);
-        k += 1;
+    let e = at + v * 2;
+    let mut acc = whole::i32_at(s, e);
+    let mut p = at;
+    let mut i = from;
+    while p < e {
+        acc += whole::i16_at(s, p) * value_at(values, i);
+        p += 2;
+        i += 1;
     }
     acc
 }
@@ -87,27 +90,43 @@ fn parts(k: u8) -> usize
     if joins(k) { 2 } else { 0 }
 }
 
+// A constraint with none below it: whether it is true, and where it ends.
+struct Leaf {
+    met: bool,
+    past: usize,
+}
+
 // the truth of a constraint of kind k at p that has none below it
-fn judged(k: u8, s: &[u8], p: usize, v: usize, values: &[i32], from: usize) -> bool
+fn judged(k: u8, s: &[u8], p: usize, v: usize, values: &[i32], from: usize) -> Leaf
     requires { ⌜ (v ≤ 16) × ((from + v ≤ length (now values)) × Alone (now s) v p k) ⌝ }
-    ensures { λ r. ⌜ r ≡ holds (take v (drop from (now (values .entry)))) (leafOf (now (s .entry)) v p k) ⌝ }
+    ensures { λ r. ⌜ Judged (now (s .entry)) v p k (take v (drop from (now (values .entry)))) r ⌝ }
 {
     if k == 0 {
-        return true;
+        return Leaf {
+            met: true,
+            past: p + 1,
+        };
     }
     let x = sum(s, p + 1, v, values, from);
+    let e = p + 5 + v * 2;
     if k == 1 {
-        return at_most_zero(x);
+        return Leaf {
+            met: at_most_zero(x),
+            past: e,
+        };
     }
     if k == 2 {
-        return is_zero(x);
+        return Leaf {
+            met: is_zero(x),
+            past: e,
+        };
     }
-    let e = p + 5 + v * 2;
-    leaves_over(
-        x,
-        whole::u16_at(s, e) as u64,
-        whole::u16_at(s, e + 2) as u64,
-    )
+    let d = whole::u16_at(s, e) as u64;
+    let m = whole::u16_at(s, e + 2) as u64;
+    Leaf {
+        met: leaves_over(x, d, m),
+        past: e + 4,
+    }
 }
 
 // ---- whole constraints
@@ -149,12 +168,24 @@ struct Waiting {
     passed: usize,
 }
 
-// the sides from the nearest on that counts where what stands before it is t; 1 where none does
+// the sides from the nearest on that counts where what stands before it is t; 1 where none does. Most often the nearest one does
 fn opened(sides: u64, t: bool) -> Waiting
     ensures { λ r. ⌜ Opened sides t r ⌝ }
 {
-    let mut rest = sides;
-    let mut passed = 0;
+    if sides < 4 {
+        return Waiting {
+            sides: sides,
+            passed: 0,
+        };
+    }
+    if same(t, 1 < sides % 4) {
+        return Waiting {
+            sides: sides,
+            passed: 0,
+        };
+    }
+    let mut rest = sides / 4;
+    let mut passed = 1;
     while 3 < rest {
         if same(t, 1 < rest % 4) {
             return Waiting {
@@ -173,7 +204,7 @@ fn opened(sides: u64, t: bool) -> Waiting
 
 // The truth of the constraint at p, over v variables whose values stand in the list from `from` on.
 // A constraint below an odd number of nots is wanted false; what is true of the whole is what is wanted of its parts.
-pub fn truth(s: &[u8], p: usize, v: u8, values: &[i32], from: usize) -> bool
+pub fn walk(s: &[u8], p: usize, v: u8, values: &[i32], from: usize) -> bool
     requires { ⌜ (v ≤ 16) × (from + v ≤ length (now values)) ⌝ }
     requires { ⌜ IsTree (now s) v p ⌝ }
     ensures { λ r. ⌜ r ≡ holds (take v (drop from (now (values .entry)))) (treeIn (now (s .entry)) v p) ⌝ }
@@ -191,15 +222,31 @@ pub fn truth(s: &[u8], p: usize, v: u8, values: &[i32], from: usize) -> bool
             sides = sides * 4 + bits(same(want, k == 4), want);
             at += 1;
         } else {
-            let t = same(want, judged(k, s, at, n, values, from));
+            let l = judged(k, s, at, n, values, from);
+            let t = same(want, l.met);
             let w = opened(sides, t);
             let rest = w.sides;
             if rest < 4 {
                 return t;
             }
-            at = end(s, at + size(k, n), n, w.passed);
+            at = end(s, l.past, n, w.passed);
             want = rest % 2 == 1;
             sides = rest / 4;
         }
+    }
+}
+
+// The same, for a call at each step: a constraint that is true or a comparison is judged without the walk.
+pub fn truth(s: &[u8], p: usize, v: u8, values: &[i32], from: usize) -> bool
+    requires { ⌜ (v ≤ 16) × (from + v ≤ length (now values)) ⌝ }
+    requires { ⌜ IsTree (now s) v p ⌝ }
+    ensures { λ r. ⌜ r ≡ holds (take v (drop from (now (values .entry)))) (treeIn (now (s .entry)) v p) ⌝ }
+{
+    let k = s[p];
+    if k < 3 {
+        let l = judged(k, s, p, v as usize, values, from);
+        l.met
+    } else {
+        walk(s, p, v, values, from)
     }
 }

@@ -1,17 +1,17 @@
 -- Laws of whole numbers. A bound on a whole number is one on its `natAbs`, a number that `omega` reads.
 use mathlib.Core.Path.{_≡_, refl, sym, ap, ap₂, _∙_, subst}
 use mathlib.Core.Logic.{_⊎_, inl, inr, ⊎-elim}
-use mathlib.Core.Bool.{Bool, true, false, cond}
+use mathlib.Core.Bool.{Bool, true, false}
 use Prim.Native.Nat.{ℕ, zero, suc, _+_, _*_, _-_, _^_, _≤_, _<_}
-use native.Mathlib.Nat.{le-refl, le-trans, le-suc, lt-of-le-of-lt, mul-le-mul, not-suc-le-zero, zero-add}
+use native.Mathlib.Nat.{le-refl, le-trans, le-suc, lt-of-le-of-lt, lt-of-lt-of-le, pow-le-pow-right, mul-le-mul, not-suc-le-zero, zero-add}
 use native.Mathlib.Omega.{arith}
 use borrow.Author.Tests.{lt-ltb, le-ltb, ltb-true, ltb-false}
-use lib.Dec.{T, ltb, ltb→lt, leb→le}
+use lib.Dec.{T, ltb, leb, ltb→lt, leb→le}
 use lib.IntN.{ℤ, pos, negsuc, negℤ, natAbs, subℕ, sucℤ, +ℤ-one, _+ℤ_, _-ℤ_, _*ℤ_}
 use lib.Signed.{mag, natAbs-le, ltZ, nonNeg, _≤ℤ_, _<ℤ_}
 use mir.Syntax.{Width, w64}
 use mir.Val.{SFits, Fits, bits, hbits, toZ, ofZ}
-use mir.Facts.{toZ-pos, toZ-neg, toZ-ofZ, sfits-toZ}
+use mir.Facts.{toZ-pos, toZ-neg, toZ-ofZ, sfits-toZ, sfits-widen}
 use mir.ValLaws.{pow-bits}
 
 pub lt-or-le : (a b : ℕ) → (a < b) ⊎ (b ≤ a)
@@ -196,37 +196,7 @@ sub-nonneg (pos a) (negsuc b) h = absurd (h .le)
 sub-nonneg (negsuc a) (pos b) h = tt
 sub-nonneg (negsuc a) (negsuc b) h = let k : b ≤ a = leb→le b a (h .le) in rw (subℕ-ge (suc a) (suc b) (omega arith)) tt
 
--- ---- two's complement
-
--- the bits n stand for n, or for n less twice half where n is half or more
-unfoldable pub twosOf : ℕ → ℕ → ℤ
-twosOf half n = cond (ltb n half) (pos n) (subℕ n (half + half))
-
-pub twos-low : (half n : ℕ) → n < half → twosOf half n ≡ pos n
-unfolding twosOf
-twos-low half n h = rw (lt-ltb n half h)
-
-pub twos-high : (half n : ℕ) → half ≤ n → twosOf half n ≡ subℕ n (half + half)
-unfolding twosOf
-twos-high half n h = rw (le-ltb n half h)
-
-pub twos-small : (half n : ℕ) → n < half + half → Small (twosOf half n) half
-twos-small half n k = ⊎-elim
-    (λ h. rw (twos-low half n h) (record { abs = omega arith }))
-    (λ h. rw (twos-high half n h, subℕ-lt n (half + half) k) (record { abs = omega arith }))
-    (lt-or-le n half)
-
--- for every width it is the machine's own reading of the bits
-pub twos-is : (w : Width) (n : ℕ) → Fits w n → twosOf (2 ^ hbits w) n ≡ toZ w n
-twos-is w n k =
-    let full : 2 ^ bits w ≡ 2 ^ hbits w + 2 ^ hbits w = pow-bits w ∙ omega arith in
-    let below : n < 2 ^ hbits w + 2 ^ hbits w = omega (arith, k .fits) in
-    ⊎-elim
-    (λ h. twos-low (2 ^ hbits w) n h ∙ sym (toZ-pos w h))
-    (λ h. twos-high (2 ^ hbits w) n h ∙ subℕ-lt n (2 ^ hbits w + 2 ^ hbits w) below
-    ∙ sym (toZ-neg w (2 ^ hbits w + 2 ^ hbits w - suc n) (omega arith))
-    ∙ ap (toZ w) (let z : 2 ^ bits w - suc (2 ^ hbits w + 2 ^ hbits w - suc n) ≡ n = omega arith in z))
-    (lt-or-le n (2 ^ hbits w))
+-- ---- signed numbers
 
 -- a result r that is the number x, which w bits hold
 pub record Signed (w : Width) (x : ℤ) (r : ℤ) : Type 0 where
@@ -236,20 +206,31 @@ pub record Signed (w : Width) (x : ℤ) (r : ℤ) : Type 0 where
 pub signed-sized : {w : Width} {x r : ℤ} → Signed w x r → Sized x (2 ^ hbits w) r
 signed-sized p = record { is = p .is; small = fits-small (p .fits) }
 
--- what `twos` gives of a width's bits n, read back, is the signed number that those bits m are
-pub signed-twos : (w : Width) {n m : ℕ} {r : ℤ} → n < 2 ^ bits w → n ≡ m → mag r < 2 ^ hbits w64 → Sized (twosOf (2 ^ hbits w) n) (2 ^ hbits w) r →
-    Signed w (toZ w m) (toZ w64 (ofZ w64 r))
-signed-twos w {n} {m} {r} h e k p =
-    let f : Fits w n = record { fits = h } in
-    record {
-      is = read w64 k p .is ∙ twos-is w n f ∙ ap (toZ w) e;
-      fits = subst (λ (x : ℕ). SFits w (toZ w x)) e (sfits-toZ f);
-    }
+-- two's complement: the bits n of a width w, whose highest is set, stand for n less the width's power; a wider x computes it and is cast down
+module _ (w x : Width) {n : ℕ} (wider : T (leb (bits w) (hbits x))) (f : Fits w n) (high : 2 ^ hbits w ≤ n) where
+  small : n < 2 ^ hbits x
+  small = lt-of-lt-of-le (f .fits) (pow-le-pow-right (omega arith) (leb→le (bits w) (hbits x) wider))
 
--- such a result, read back from 64 bits and cast to its own width
-module _ {w : Width} {x r : ℤ} (h : mag r < 2 ^ hbits w64) (p : Signed w x r) where
-  pub narrow-fits : SFits w (toZ w64 (ofZ w64 r))
-  narrow-fits = sfits-is (own w64 r h ∙ p .is) (p .fits)
+  twos-is : toZ x n -ℤ pos (2 ^ bits w) ≡ toZ w n
+  twos-is =
+      let full : 2 ^ bits w ≡ 2 ^ hbits w + 2 ^ hbits w = pow-bits w ∙ omega arith in
+      let same : 2 ^ bits w - suc (2 ^ bits w - suc n) ≡ n = omega (arith, f .fits) in
+      ap (λ (z : ℤ). z -ℤ pos (2 ^ bits w)) (toZ-pos x small) ∙ sub-pos n (2 ^ bits w) ∙ subℕ-lt n (2 ^ bits w) (f .fits)
+      ∙ sym (toZ-neg w (2 ^ bits w - suc n) (omega (arith, f .fits))) ∙ ap (toZ w) same
 
-  pub narrow-is : toZ w (ofZ w (toZ w64 (ofZ w64 r))) ≡ x
-  narrow-is = back (own w64 r h ∙ p .is) (p .fits)
+  pub twos-wide : SFits x (toZ x n -ℤ pos (2 ^ bits w))
+  twos-wide = sfits-is twos-is (record { sfits = omega (arith, sfits-toZ f .sfits, small) })
+
+  pub twos-narrow : SFits w (toZ x (ofZ x (toZ x n -ℤ pos (2 ^ bits w))))
+  twos-narrow = sfits-is (toZ-ofZ twos-wide ∙ twos-is) (sfits-toZ f)
+
+  pub twos : toZ w (ofZ w (toZ x (ofZ x (toZ x n -ℤ pos (2 ^ bits w))))) ≡ toZ w n
+  twos = back (toZ-ofZ twos-wide ∙ twos-is) (sfits-toZ f)
+
+-- a number r of w bits, cast to 64 bits
+module _ (w : Width) (r : ℤ) (narrow : T (leb (hbits w) 63)) (h : mag r < 2 ^ hbits w) where
+  pub widen-fits : SFits w64 (toZ w (ofZ w r))
+  widen-fits = sfits-is (own w r h) (sfits-widen {w = w} narrow (record { sfits = h }))
+
+  pub widen : {z : ℤ} → r ≡ z → Signed w z (toZ w64 (ofZ w64 (toZ w (ofZ w r))))
+  widen e = record { is = toZ-ofZ widen-fits ∙ own w r h ∙ e; fits = subst (SFits w) e (record { sfits = h }) }

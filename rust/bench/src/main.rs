@@ -1,22 +1,28 @@
-//! Times each call of the kit against the judge, plain Rust, on the same inputs in one run.
+//! Times each call of the kit against the judge, plain Rust, and against Rust written for speed, on the same inputs in one run.
 //!
 //!     cargo run --release --offline --manifest-path rust/Cargo.toml -p ruahmitz-bench
 //!
-//! A line tells the time for one unit of the input by each, their ratio, and how the kit's whole time grows from the size before,
-//! where 1.0 is linear.
+//! A line tells the time for one unit of the input by each, the kit's ratio to both, and how the kit's whole time grows from the size
+//! before, where 1.0 is linear. Cells are empty where fast Rust does not have the call.
 
 mod inputs;
 
 use ruahmitz_compare::draft::Draft;
+use ruahmitz_fast as fast;
 use ruahmitz_judge as judge;
 use ruahmitz_kit as kit;
 use std::hint::black_box;
 
-/// One call on one input, as the kit and as the judge make it; each gives its number and place, which are compared first.
+/// Number and place.
+type Reply = (u32, u64);
+type Call<'a> = Box<dyn FnMut() -> Reply + 'a>;
+
+/// One call on one input, as each makes it; their replies are compared first.
 struct Work<'a> {
     size: usize,
-    kit: Box<dyn FnMut() -> (u32, u64) + 'a>,
-    judge: Box<dyn FnMut() -> (u32, u64) + 'a>,
+    kit: Call<'a>,
+    judge: Call<'a>,
+    fast: Option<Call<'a>>,
 }
 
 extern "C" {
@@ -32,23 +38,24 @@ fn clock() -> f64 {
     time[0] as f64 + time[1] as f64 * 1e-9
 }
 
-/// The least times of several runs of both, in turn, each repeated until it can be measured.
-fn least(work: &mut Work) -> (f64, f64) {
-    let (mut kit, mut judge) = (f64::MAX, f64::MAX);
+/// The least times of several runs of each, in turn, each repeated until it can be measured.
+fn least<const N: usize>(mut calls: [&mut Call; N]) -> [f64; N] {
+    let mut times = [f64::MAX; N];
     let mut repeats = 1;
     let begin = clock();
-    while clock() - begin < 2.0 {
-        let spent = timed(repeats, &mut work.kit);
-        kit = kit.min(spent / f64::from(repeats));
-        judge = judge.min(timed(repeats, &mut work.judge) / f64::from(repeats));
-        if spent < 0.005 {
+    while clock() - begin < N as f64 {
+        let spent = calls.each_mut().map(|call| timed(repeats, call));
+        for (time, spent) in times.iter_mut().zip(spent) {
+            *time = time.min(spent / f64::from(repeats));
+        }
+        if spent[0] < 0.005 {
             repeats *= 2;
         }
     }
-    (kit, judge)
+    times
 }
 
-fn timed(repeats: u32, call: &mut dyn FnMut() -> (u32, u64)) -> f64 {
+fn timed(repeats: u32, call: &mut Call) -> f64 {
     let start = clock();
     for _ in 0..repeats {
         black_box(call());
@@ -58,15 +65,31 @@ fn timed(repeats: u32, call: &mut dyn FnMut() -> (u32, u64)) -> f64 {
 
 fn table(name: &str, unit: &str, works: Vec<Work>) {
     let mut before: Option<(usize, f64)> = None;
-    for mut work in works {
-        let (ours, theirs) = ((work.kit)(), (work.judge)());
-        assert_eq!(ours, theirs, "{name}: the answers differ");
-        let (kit, judge) = least(&mut work);
-        let per = |time: f64| time * 1e9 / work.size as f64;
-        let growth =
-            before.map_or("".to_string(), |(size, time)| format!("{:.2}", kit / time / (work.size as f64 / size as f64)));
-        println!("| {name} | {} {unit} | {:.2} | {:.2} | {:.2} | {growth} |", work.size, per(kit), per(judge), kit / judge);
-        before = Some((work.size, kit));
+    for Work { size, mut kit, mut judge, fast } in works {
+        let due = judge();
+        assert_eq!(kit(), due, "{name}: the kit's answer differs");
+        let (ours, plain, fastest) = match fast {
+            Some(mut fast) => {
+                assert_eq!(fast(), due, "{name}: fast Rust's answer differs");
+                let [ours, plain, fastest] = least([&mut kit, &mut judge, &mut fast]);
+                (ours, plain, Some(fastest))
+            }
+            None => {
+                let [ours, plain] = least([&mut kit, &mut judge]);
+                (ours, plain, None)
+            }
+        };
+        let per = |time: f64| format!("{:.2}", time * 1e9 / size as f64);
+        let cells = [
+            per(ours),
+            per(plain),
+            fastest.map(per).unwrap_or_default(),
+            format!("{:.2}", ours / plain),
+            fastest.map(|time| format!("{:.2}", ours / time)).unwrap_or_default(),
+            before.map(|(less, time)| format!("{:.2}", ours / time / (size as f64 / less as f64))).unwrap_or_default(),
+        ];
+        println!("| {name} | {size} {unit} | {} |", cells.join(" | "));
+        before = Some((size, ours));
     }
 }
 
@@ -77,6 +100,7 @@ fn books() {
         size: book.len(),
         kit: Box::new(move || told(kit::book(black_box(book)))),
         judge: Box::new(move || judged(judge::book(black_box(book)))),
+        fast: None,
     };
     let held: Vec<&'static [u8]> = written.iter().map(|book| &*book.clone().leak()).collect();
     table("book", "bytes", held.iter().map(|book| work(book)).collect());
@@ -90,16 +114,21 @@ fn books() {
             let p = judge::constraint(black_box(book), 0);
             (p.length as u32, p.start)
         }),
+        fast: None,
     };
     table("constraint", "bytes", held.iter().map(|book| part(book)).collect());
     table("text", "characters", held.iter().map(|book| text(book)).collect());
 }
 
-fn told(answer: kit::Answer) -> (u32, u64) {
+fn told(answer: kit::Answer) -> Reply {
     (answer.number, answer.place)
 }
 
-fn judged(answer: judge::Answer) -> (u32, u64) {
+fn judged(answer: judge::Answer) -> Reply {
+    (answer.number, answer.place)
+}
+
+fn raced(answer: fast::Answer) -> Reply {
     (answer.number, answer.place)
 }
 
@@ -110,6 +139,7 @@ fn text(book: &'static [u8]) -> Work<'static> {
         size: length,
         kit: Box::new(move || told(kit::text(black_box(book), &mut ours))),
         judge: Box::new(move || judged(judge::text(black_box(book), &mut theirs))),
+        fast: None,
     }
 }
 
@@ -134,28 +164,39 @@ fn case(draft: &Draft, steps: i32) -> Case {
 type Check<A> = fn(&[u8], &[i32], u64, &[i32]) -> A;
 type Convert<A> = fn(&[u8], &[i32], u64, &[i32], &mut [i32]) -> A;
 
-fn check(case: &Case, list: &'static [i32], ours: Check<kit::Answer>, theirs: Check<judge::Answer>) -> Work<'static> {
+/// A call as the three have it.
+struct Three<K, J, F> {
+    kit: K,
+    judge: J,
+    fast: F,
+}
+
+type Checks = Three<Check<kit::Answer>, Check<judge::Answer>, Check<fast::Answer>>;
+type Conversions = Three<Convert<kit::Answer>, Convert<judge::Answer>, Convert<fast::Answer>>;
+
+const DERIVATION: Checks = Three { kit: kit::derivation, judge: judge::derivation, fast: fast::derivation };
+const TRACE: Checks = Three { kit: kit::trace, judge: judge::trace, fast: fast::trace };
+const TO_TRACE: Conversions = Three { kit: kit::to_trace, judge: judge::to_trace, fast: fast::to_trace };
+const TO_DERIVATION: Conversions = Three { kit: kit::to_derivation, judge: judge::to_derivation, fast: fast::to_derivation };
+
+fn check(case: &Case, list: &'static [i32], calls: Checks) -> Work<'static> {
     let (book, goal) = (case.book, case.goal);
     Work {
         size: list.len(),
-        kit: Box::new(move || told(ours(black_box(book), list, 0, goal))),
-        judge: Box::new(move || judged(theirs(black_box(book), list, 0, goal))),
+        kit: Box::new(move || told((calls.kit)(black_box(book), list, 0, goal))),
+        judge: Box::new(move || judged((calls.judge)(black_box(book), list, 0, goal))),
+        fast: Some(Box::new(move || raced((calls.fast)(black_box(book), list, 0, goal)))),
     }
 }
 
-fn convert(
-    case: &Case,
-    list: &'static [i32],
-    size: usize,
-    ours: Convert<kit::Answer>,
-    theirs: Convert<judge::Answer>,
-) -> Work<'static> {
+fn convert(case: &Case, list: &'static [i32], room: usize, calls: Conversions) -> Work<'static> {
     let (book, goal) = (case.book, case.goal);
-    let (mut first, mut second) = (vec![0; size], vec![0; size]);
+    let [mut first, mut second, mut third] = [(); 3].map(|()| vec![0; room]);
     Work {
         size: case.trace.len(),
-        kit: Box::new(move || told(ours(black_box(book), list, 0, goal, &mut first))),
-        judge: Box::new(move || judged(theirs(black_box(book), list, 0, goal, &mut second))),
+        kit: Box::new(move || told((calls.kit)(black_box(book), list, 0, goal, &mut first))),
+        judge: Box::new(move || judged((calls.judge)(black_box(book), list, 0, goal, &mut second))),
+        fast: Some(Box::new(move || raced((calls.fast)(black_box(book), list, 0, goal, &mut third)))),
     }
 }
 
@@ -166,22 +207,12 @@ fn lists(name: &str, draft: Draft) {
     let long: Vec<Case> = sizes.iter().map(|size| case(&draft, size / (1 + 2 * arity))).collect();
     let traced: Vec<Case> = sizes.iter().map(|size| case(&draft, (size - 16) / (1 + 2 * arity + 2 + arity))).collect();
     let row = |call: &str| format!("{call}, {name}");
-    table(
-        &row("derivation"),
-        "numbers",
-        long.iter().map(|c| check(c, c.derivation, kit::derivation, judge::derivation)).collect(),
-    );
-    table(&row("trace"), "numbers", traced.iter().map(|c| check(c, c.trace, kit::trace, judge::trace)).collect());
-    table(
-        &row("to_trace"),
-        "numbers written",
-        traced.iter().map(|c| convert(c, c.derivation, c.trace.len(), kit::to_trace, judge::to_trace)).collect(),
-    );
-    table(
-        &row("to_derivation"),
-        "numbers read",
-        traced.iter().map(|c| convert(c, c.trace, c.derivation.len(), kit::to_derivation, judge::to_derivation)).collect(),
-    );
+    table(&row("derivation"), "numbers", long.iter().map(|c| check(c, c.derivation, DERIVATION)).collect());
+    table(&row("trace"), "numbers", traced.iter().map(|c| check(c, c.trace, TRACE)).collect());
+    let written = traced.iter().map(|c| convert(c, c.derivation, c.trace.len(), TO_TRACE));
+    table(&row("to_trace"), "numbers written", written.collect());
+    let read = traced.iter().map(|c| convert(c, c.trace, c.derivation.len(), TO_DERIVATION));
+    table(&row("to_derivation"), "numbers read", read.collect());
 }
 
 fn models(name: &str, make: fn(i32) -> Draft, widths: [i32; 3]) {
@@ -199,14 +230,20 @@ fn models(name: &str, make: fn(i32) -> Draft, widths: [i32; 3]) {
                 let a = judge::model(black_box(book), model);
                 (a.number, a.count)
             }),
+            fast: Some(Box::new(move || {
+                let a = fast::model(black_box(book), model);
+                (a.number, a.count)
+            })),
         }
     });
     table(&format!("model, {name}"), "assignments", works.into());
 }
 
 fn main() {
-    println!("| call, book | size | kit, ns a unit | plain Rust, ns a unit | ratio | growth |");
-    println!("|---|---|---|---|---|---|");
+    println!(
+        "| call, book | size | kit, ns a unit | plain Rust, ns a unit | fast Rust, ns a unit | kit/plain | kit/fast | growth |"
+    );
+    println!("|---|---|---|---|---|---|---|---|");
     books();
     lists("1 node", inputs::counter(i32::MAX));
     lists("16 nodes", inputs::machine(i32::MAX));

@@ -1,4 +1,4 @@
-//! Compares the proved kit with the judge: inputs made from a seed, both asked, and what comes back compared.
+//! Compares the proved kit, and fast Rust, with the judge: inputs made from a seed, all asked, and what comes back compared.
 
 pub mod books;
 pub mod cases;

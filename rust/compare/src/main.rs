@@ -1,4 +1,4 @@
-//! Compares the proved kit with the judge on generated inputs.
+//! Compares the proved kit, and fast Rust, with the judge on generated inputs.
 //!
 //! `compare [--seed N] [--cases N] [--only CASE]`: the case of a number depends on the seed and that number alone, so that one which
 //! failed can be run again by itself. The last line is `N passed, M failed`; the exit status is 1 if any failed.

@@ -1,4 +1,4 @@
-//! A target for libFuzzer: its bytes are taken as a case, and the kit and the judge are asked the same.
+//! A target for libFuzzer: its bytes are taken as a case, and the kit, fast Rust and the judge are asked the same.
 //!
 //! A number is one byte, from −127 to 127; byte 80 stands before one of four bytes, little-endian. Numbers and bytes go in rows: a count
 //! of two bytes, then what it counts, or what is left where that is less. A case is seven rows: the book's bytes, the clauses to ask the
@@ -114,7 +114,7 @@ pub fn pack(case: &Case) -> Option<Vec<u8>> {
     Some(data)
 }
 
-/// Asks both; ends the process where they differ.
+/// Asks all; ends the process where they differ.
 fn ask(data: &[u8]) {
     let mut comparer = Comparer::default();
     if !comparer.case(&unpack(data)) {

@@ -13,5 +13,8 @@ element-copy-out-result c = omega (arith, c .before .pre (c .if1 .left))
 returns-2 : tie.Need-returns-2
 returns-2 c = search count-some
 
+mul-result : tie.Need-mul-result
+mul-result c = omega (arith, c .before .pre (c .if1 .left))
+
 pub body-count-spec : {M : Type 1} → statement M
-body-count-spec = tie.close (tie.spec returns (λ c. search needs) element-copy-out-result returns-2)
+body-count-spec = tie.close (tie.spec returns mul-result element-copy-out-result returns-2)

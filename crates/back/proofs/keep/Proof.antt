@@ -17,4 +17,4 @@ returns-2 c =
     kept-not (a .marks .now) (a .k) (a .i) (c .before .pre .0) (λ q y. let z : ⊥ = omega (arith, c .if1 .left) in z)
 
 pub keep-spec : {M : Type 1} → statement M
-keep-spec = tie.close (tie.spec (λ c. search needs) (λ c. search needs) returns returns-2)
+keep-spec = tie.close (tie.spec (λ c. search needs) (λ c. search needs) (λ c. search needs) returns returns-2)

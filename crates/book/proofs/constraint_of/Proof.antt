@@ -1,6 +1,7 @@
 use borrow.Author.Needs.{needs}
 use Rattle.book.specs.Read.{constraintOf}
 use Rattle.book.specs.Span.{Spans, spans-by}
+use Rattle.book.specs.Lent.{handed-is}
 use Rattle.book.proofs.constraint_of.Statement.{statement}
 use Rattle.book.proofs.constraint_of.Tie as tie
 
@@ -18,7 +19,7 @@ part-result-end : tie.Need-part-result-end
 part-result-end c = known c .inside
 
 returns : tie.Need-returns
-returns c = known (c .before) .part
+returns c = handed-is _ _ (c .before .constraint-span .ensures)
 
 pub constraint-of-spec : {M : Type 1} → statement M
 constraint-of-spec = tie.close (tie.spec (λ c κs. search needs) sub-result part-result-start part-result-end returns)

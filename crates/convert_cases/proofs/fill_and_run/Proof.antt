@@ -26,6 +26,8 @@ fill-and-run-spec =
     (λ c κs. search needs)
     (λ c κs. search needs)
     (λ c κs. search needs)
+    (λ c κs. search needs)
+    (λ c κs. search needs)
     (λ c. search needs)
     slice-aggregate-run
     (λ c. search needs)

@@ -1,21 +1,25 @@
-use Rattle.reply.specs.Answer.{answers}
-use Rattle.book.proofs.Calls.{book-good}
-use Rattle.facts.proofs.Seats.{sequences}
-use Rattle.derivation.specs.Answer.{answer}
 use borrow.Author.Needs.{needs}
+use Rattle.reply.specs.Answer.{answers}
+use Rattle.book.proofs.Calls.{book-good, calls}
+use Rattle.derivation.specs.Answer.{answer}
+use Rattle.derivation.proofs.Laws.{plain-stop, check-done}
 use Rattle.derivation.proofs.check.Statement.{statement}
 use Rattle.derivation.proofs.check.Tie as tie
 
 returns : tie.Need-returns
 unfolding answer
-returns c = answers (search sequences)
+returns c = answers (search calls)
 
-check-in-requires : tie.Need-check-in-requires
-check-in-requires c κs = search book-good
+table-of-requires : tie.Need-table-of-requires
+table-of-requires c κs = search book-good
 
 returns-2 : tie.Need-returns-2
 unfolding answer
-returns-2 c = answers (search sequences)
+returns-2 c = answers (search (calls, plain-stop))
+
+returns-3 : tie.Need-returns-3
+unfolding answer
+returns-3 c = answers (search (calls, check-done))
 
 pub check-spec : {M : Type 1} → statement M
 check-spec =
@@ -26,5 +30,9 @@ check-spec =
     (λ c. search needs)
     (λ c κs. search needs)
     returns
-    check-in-requires
-    returns-2)
+    table-of-requires
+    (λ c κs. search needs)
+    (λ c. search needs)
+    (λ c. search needs)
+    returns-2
+    returns-3)

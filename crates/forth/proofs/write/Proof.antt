@@ -8,20 +8,20 @@ use Rattle.forth.proofs.write.Tie as tie
 write-state-requires : tie.Need-write-state-requires
 write-state-requires c κs =
     let a = c .before .before .before .before .before .args in
-    let p = c .before .before .before .before .before .pre in
-    (p .0 .good, omega (arith, trace-many (a .book .now) (a .h) (a .list .now) (p .0 .good), p .1 .1))
+    let (table, (walk, (sized, fits))) = c .before .before .before .before .before .pre in
+    (table .good, omega (arith, trace-many (a .book .now) (a .h) (a .list .now) (table .good), fits))
 
 write-steps-requires : tie.Need-write-steps-requires
 write-steps-requires c κs =
     let a = c .before .before .before .before .before .before .before .before .args in
-    let p = c .before .before .before .before .before .before .before .before .pre in
-    (p .0, (p .1 .0, omega (arith, trace-many (a .book .now) (a .h) (a .list .now) (p .0 .good), p .1 .0 .is, p .1 .1, put-length (c .before .before .write-state .ensures))))
+    let (table, (walk, (sized, fits))) = c .before .before .before .before .before .before .before .before .pre in
+    (table, (walk, (sized, omega (arith, trace-many (a .book .now) (a .h) (a .list .now) (table .good), sized .is, fits, put-length (c .before .before .write-state .ensures)))))
 
 returns : tie.Need-returns
 returns c =
     let a = c .before .before .before .before .before .before .before .before .before .before .args in
-    let p = c .before .before .before .before .before .before .before .before .before .before .pre in
-    trace-put (a .book .now) (a .h) (a .list .now) (p .0 .good) (a .size) (p .1 .0) (c .before .before .before .before .before .before .before .before .low-rows .ensures) (c .before .before .before .before .write-state .ensures) (c .before .write-steps .ensures)
+    let (table, (walk, (sized, fits))) = c .before .before .before .before .before .before .before .before .before .before .pre in
+    trace-put (a .book .now) (a .h) (a .list .now) (table .good) (a .size) sized (c .before .before .before .before .before .before .before .before .low-rows .ensures) (c .before .before .before .before .write-state .ensures) (c .before .write-steps .ensures)
 
 pub write-spec : {M : Type 1} → statement M
 write-spec =

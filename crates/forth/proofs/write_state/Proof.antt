@@ -2,7 +2,7 @@ use borrow.Author.Needs.{needs}
 use mathlib.Core.Path.{sym}
 use native.Mathlib.Omega.{arith}
 use Rattle.state.specs.Laws.{bits-length}
-use Rattle.state.proofs.Shape.{shape-read, size-is}
+use Rattle.state.proofs.Shape.{relations-few, size-is}
 use Rattle.state.proofs.Laws.{numbers-are}
 use Rattle.steps.specs.Put.{put-length, put-then, put-as}
 use Rattle.forth.proofs.write_state.Statement.{statement}
@@ -11,14 +11,16 @@ use Rattle.forth.proofs.write_state.Tie as tie
 write-flags-requires : tie.Need-write-flags-requires
 write-flags-requires c κs =
     let a = c .before .before .before .args in
+    let p = c .before .before .before .pre in
     let n = c .before .wide .ensures .0 in
-    (omega (arith, n, shape-read (a .book .now) (a .h) (c .before .before .before .pre .0) .few), omega (arith, n, size-is (a .book .now) (a .h) (c .before .before .before .pre .0), c .before .before .before .pre .1))
+    (omega (arith, n, relations-few (a .book .now) (a .h) (p .0)), omega (arith, n, size-is (a .book .now) (a .h) (p .0), p .1))
 
 write-places-requires : tie.Need-write-places-requires
 write-places-requires c κs =
     let a = c .before .before .before .before .before .before .args in
+    let p = c .before .before .before .before .before .before .pre in
     let n = c .before .before .before .before .wide .ensures .0 in
-    (rw n (shape-read (a .book .now) (a .h) (c .before .before .before .before .before .before .pre .0)), rw n (omega (arith, size-is (a .book .now) (a .h) (c .before .before .before .before .before .before .pre .0), c .before .before .before .before .before .before .pre .1, put-length (c .before .before .write-flags .ensures))))
+    (p .0, omega (arith, n, size-is (a .book .now) (a .h) (p .0), p .1, put-length (c .before .before .write-flags .ensures)))
 
 returns : tie.Need-returns
 returns c =

@@ -1,91 +1,100 @@
 use borrow.Author.Needs.{needs}
 use native.Mathlib.Omega.{arith}
-use mathlib.Core.Path.{refl}
-use Prim.Native.Nat.{_-_}
-use lib.ListN.{length}
-use Rattle.meaning.specs.State as state
+use mathlib.Core.Path.{_≡_, refl, _∙_}
+use Prim.Native.Nat.{_+_, _-_, _≤_}
+use lib.ListN.{length, length-set}
+use Rattle.meaning.specs.State as meant
 use Rattle.lists.specs.Places.{traceDue}
 use Rattle.book.specs.Meaning.{bookIn}
-use Rattle.steps.proofs.Places.{head-small, here-at}
+use Rattle.state.specs.State.{stateOf}
+use Rattle.state.specs.Laws as state
 use Rattle.steps.specs.Put.{put-length}
-use Rattle.forth.proofs.Going.{Going, first-state, going-first, row-asks, move-asks, move-more, going-all}
+use Rattle.steps.proofs.Places.{here-cell}
+use Rattle.forth.proofs.Going.{Going, first-state, going-first, going-all, step-here, step-below, step-room, step-small, move-asks, move-more}
 use Rattle.forth.proofs.write_steps.Statement.{statement}
 use Rattle.forth.proofs.write_steps.Tie as tie
 
 abbrev Inv-loop : tie.InvT-loop
-Inv-loop book h list size room₀ flags₀ rows₀ at₀ i₀ room flags rows at i =
-    Going (bookIn book h) list size room₀ (traceDue (bookIn book h) state.flags list 0 (state.first (bookIn book h) state.flags)) flags rows room at i
+Inv-loop book h table list size room₀ flags₀ rows₀ at₀ i₀ room flags rows at i =
+    Going (bookIn book h) meant.flags list size room₀ (traceDue (bookIn book h) meant.flags list 0 (meant.first (bookIn book h) meant.flags)) (stateOf (bookIn book h .arities) flags rows) room at i
+    × (length flags ≡ 16) × (length rows ≡ 16)
 
 abbrev μ-loop : tie.MeasureT-loop
-μ-loop book h list size room₀ flags₀ rows₀ at₀ i₀ room flags rows at i = length list - i
+μ-loop book h table list size room₀ flags₀ rows₀ at₀ i₀ room flags rows at i = length list - i
 
 loop-holds : tie.Need-loop-holds Inv-loop μ-loop
 loop-holds c =
     let a = c .before .before .args in
     let p = c .before .before .pre in
-    going-first (a .book .now) (a .h) (a .list .now) (a .size) (a .room .now) (traceDue (bookIn (a .book .now) (a .h)) state.flags (a .list .now) 0 (state.first (bookIn (a .book .now) (a .h)) state.flags)) _ (c .low-rows .result) (omega (arith, p .1 .1)) refl (rw (c .low-rows .ensures)) (rw (c .low-rows .ensures, first-state (a .book .now) (a .h) (p .0 .good)))
+    (rw (c .low-rows .ensures, first-state (a .book .now) (a .h) (p .0 .good)) (going-first (bookIn (a .book .now) (a .h)) meant.flags (a .list .now) (a .size) (a .room .now) _ (omega (arith, p .1 .1 .1))), refl, rw (c .low-rows .ensures))
 
-clause-at-requires : tie.Need-clause-at-requires Inv-loop μ-loop
-clause-at-requires c κs =
-    let a = c .before .before .before .before .args in
-    let t = c .before .loop in
-    let w = here-at (a .book .now) (a .h) (a .list .now) 0 (c .before .before .before .before .pre .0) (t .inv .number) (t .i) (t .inv .place) (c .loop-test .taken) in
-    (w .good, (w .inside, w .there))
+cell-requires : tie.Need-cell-requires Inv-loop μ-loop
+cell-requires c κs =
+    let p = c .before .before .before .before .before .pre in
+    let t = c .before .before .loop in
+    (here-cell (p .0) (step-here (p .0) (p .1 .0) (p .1 .1 .0) (p .1 .1 .1) (t .flags) (t .rows) (t .inv .0) (c .before .loop-test .taken)) (c .number-at .ensures), omega arith)
+
+cell-requires-2 : tie.Need-cell-requires-2 Inv-loop μ-loop
+cell-requires-2 c κs =
+    let p = c .before .before .before .before .before .before .pre in
+    let t = c .before .before .before .loop in
+    (here-cell (p .0) (step-here (p .0) (p .1 .0) (p .1 .1 .0) (p .1 .1 .1) (t .flags) (t .rows) (t .inv .0) (c .before .before .loop-test .taken)) (c .before .number-at .ensures), omega arith)
 
 array-write-flags : tie.Need-array-write-flags Inv-loop μ-loop
-array-write-flags c = omega (arith, c .wide2 .ensures .0, head-small _ _ _ _ (c .before .before .clause-at .ensures) (c .before .before .before .before .before .before .before .pre .0 .good))
+array-write-flags c =
+    let p = c .before .before .before .before .before .before .before .pre in
+    let t = c .before .before .before .before .loop in
+    step-small (p .0) (p .1 .0) (p .1 .1 .0) (p .1 .1 .1) (t .flags) (t .rows) (t .inv .0) (c .before .before .before .loop-test .taken) (c .before .before .number-at .ensures) (c .cell2 .ensures .0)
 
-row-of-requires : tie.Need-row-of-requires Inv-loop μ-loop
-row-of-requires c κs =
-    let a = c .before .before .before .before .before .before .before .before .args in
-    row-asks (a .book .now) (a .h) (a .list .now) (a .size) _ (traceDue (bookIn (a .book .now) (a .h)) state.flags (a .list .now) 0 (state.first (bookIn (a .book .now) (a .h)) state.flags)) (c .before .before .before .before .before .before .before .before .pre .0) (c .before .before .before .before .before .before .before .before .pre .1 .0) (c .before .before .before .before .before .before .before .before .pre .1 .1) (c .before .before .before .before .before .loop .inv) (c .before .before .before .before .loop-test .taken) (c .before .before .before .clause-at .ensures) (c .before .wide2 .ensures .0) (c .before .before .wide .ensures .0) (c .head-of .ensures)
+put-requires : tie.Need-put-requires Inv-loop μ-loop
+put-requires c κs =
+    let p = c .before .before .before .before .before .before .before .before .pre in
+    let t = c .before .before .before .before .before .loop in
+    let q = c .before .before .before .before .loop-test .taken in
+    let e = c .before .before .before .number-at .ensures in
+    (p .0, (step-below (p .0) (p .1 .0) (p .1 .1 .0) (p .1 .1 .1) (t .flags) (t .rows) (t .inv .0) q e, step-room (p .0) (p .1 .0) (p .1 .1 .0) (p .1 .1 .1) (t .flags) (t .rows) (t .inv .0) q e))
 
-array-set-from-rows : tie.Need-array-set-from-rows Inv-loop μ-loop
-array-set-from-rows c = omega (arith, c .before .before .wide2 .ensures .0, head-small _ _ _ _ (c .before .before .before .before .clause-at .ensures) (c .before .before .before .before .before .before .before .before .before .pre .0 .good))
+-- the list and the room hold the step's numbers and the state after it
+asks : (c : tie.After-put Inv-loop μ-loop) →
+    (c .before .before .before .before .before .before .loop .i + (1 + c .before .before .before .cell .result) ≤ length (c .before .before .before .before .before .before .before .before .before .args .list .now)) × (c .before .before .before .before .before .before .loop .at + (1 + c .before .before .before .cell .result) + c .before .before .before .before .before .before .before .before .before .args .size ≤ length (c .before .before .before .before .before .before .loop .room))
+asks c =
+    let p = c .before .before .before .before .before .before .before .before .before .pre in
+    let t = c .before .before .before .before .before .before .loop in
+    move-asks (p .0) (p .1 .0) (p .1 .1 .0) (p .1 .1 .1) (t .flags) (t .rows) (t .inv .0) (c .before .before .before .before .before .loop-test .taken) (c .before .before .before .before .number-at .ensures) (c .before .before .before .cell .ensures .0) (c .before .before .cell2 .ensures .0) (t .inv .1) (t .inv .2) (c .put .ensures)
 
 write-move-requires : tie.Need-write-move-requires Inv-loop μ-loop
 write-move-requires c κs =
-    let a = c .before .before .before .before .before .before .before .before .before .before .before .before .args in
-    move-asks (a .book .now) (a .h) (a .list .now) (a .size) _ (traceDue (bookIn (a .book .now) (a .h)) state.flags (a .list .now) 0 (state.first (bookIn (a .book .now) (a .h)) state.flags)) (c .before .before .before .before .before .before .before .before .before .before .before .before .pre .0) (c .before .before .before .before .before .before .before .before .before .before .before .before .pre .1 .0) (c .before .before .before .before .before .before .before .before .before .before .before .before .pre .1 .1) (c .before .before .before .before .before .before .before .before .before .loop .inv) (c .before .before .before .before .before .before .before .before .loop-test .taken) (c .before .before .before .before .before .before .before .clause-at .ensures) (c .before .before .before .before .before .wide2 .ensures .0) (c .before .before .before .before .before .before .wide .ensures .0) (c .before .before .before .before .head-of .ensures)
-    (c .before .before .before .row-of .result) (c .before .before .before .row-of .ensures)
+    let p = c .before .before .before .before .before .before .before .before .before .before .before .before .pre in
+    let (list, room) = asks (c .before .before .before) in
+    (p .0 .good, (list, omega (arith, room, p .1 .1 .0 .is)))
 
 add-at : tie.Need-add-at Inv-loop μ-loop
-add-at c =
-    let a = c .before .before .before .before .before .before .before .before .before .before .before .before .before .before .args in
-    let w = move-asks (a .book .now) (a .h) (a .list .now) (a .size) _ (traceDue (bookIn (a .book .now) (a .h)) state.flags (a .list .now) 0 (state.first (bookIn (a .book .now) (a .h)) state.flags)) (c .before .before .before .before .before .before .before .before .before .before .before .before .before .before .pre .0) (c .before .before .before .before .before .before .before .before .before .before .before .before .before .before .pre .1 .0) (c .before .before .before .before .before .before .before .before .before .before .before .before .before .before .pre .1 .1) (c .before .before .before .before .before .before .before .before .before .before .before .loop .inv) (c .before .before .before .before .before .before .before .before .before .before .loop-test .taken) (c .before .before .before .before .before .before .before .before .before .clause-at .ensures) (c .before .before .before .before .before .before .before .wide2 .ensures .0) (c .before .before .before .before .before .before .before .before .wide .ensures .0) (c .before .before .before .before .before .before .head-of .ensures)
-    (c .before .before .before .before .before .row-of .result) (c .before .before .before .before .before .row-of .ensures) in
-    record { fits = omega (arith, w .1 .1, c .before .before .before .before .before .before .before .before .before .before .before .before .before .before .pre .1 .0 .is, put-length (c .before .before .before .before .before .before .before .before .before .before .before .loop .inv .put), c .before .before .before .before .before .before .before .before .before .before .before .before .before .before .good .1 .1 .1 .1 .0 .0) }
+add-at c = record { fits = omega (arith, asks (c .before .before .before .before .before) .1, put-length (c .before .before .before .before .before .before .before .before .before .before .before .loop .inv .0 .put), c .before .before .before .before .before .before .before .before .before .before .before .before .before .before .good) }
 
 add-at-2 : tie.Need-add-at-2 Inv-loop μ-loop
-add-at-2 c =
-    let a = c .before .before .before .before .before .before .before .before .before .before .before .before .before .before .args in
-    let w = move-asks (a .book .now) (a .h) (a .list .now) (a .size) _ (traceDue (bookIn (a .book .now) (a .h)) state.flags (a .list .now) 0 (state.first (bookIn (a .book .now) (a .h)) state.flags)) (c .before .before .before .before .before .before .before .before .before .before .before .before .before .before .pre .0) (c .before .before .before .before .before .before .before .before .before .before .before .before .before .before .pre .1 .0) (c .before .before .before .before .before .before .before .before .before .before .before .before .before .before .pre .1 .1) (c .before .before .before .before .before .before .before .before .before .before .before .loop .inv) (c .before .before .before .before .before .before .before .before .before .before .loop-test .taken) (c .before .before .before .before .before .before .before .before .before .clause-at .ensures) (c .before .before .before .before .before .before .before .wide2 .ensures .0) (c .before .before .before .before .before .before .before .before .wide .ensures .0) (c .before .before .before .before .before .before .head-of .ensures)
-    (c .before .before .before .before .before .row-of .result) (c .before .before .before .before .before .row-of .ensures) in
-    record { fits = omega (arith, w .1 .1, c .before .before .before .before .before .before .before .before .before .before .before .before .before .before .pre .1 .0 .is, put-length (c .before .before .before .before .before .before .before .before .before .before .before .loop .inv .put), c .before .before .before .before .before .before .before .before .before .before .before .before .before .before .good .1 .1 .1 .1 .0 .0) }
+add-at-2 c = record { fits = omega (arith, asks (c .before .before .before .before .before) .1, put-length (c .before .before .before .before .before .before .before .before .before .before .before .loop .inv .0 .put), c .before .before .before .before .before .before .before .before .before .before .before .before .before .before .good) }
 
 add-i : tie.Need-add-i Inv-loop μ-loop
-add-i c =
-    let a = c .before .before .before .before .before .before .before .before .before .before .before .before .before .before .args in
-    let w = move-asks (a .book .now) (a .h) (a .list .now) (a .size) _ (traceDue (bookIn (a .book .now) (a .h)) state.flags (a .list .now) 0 (state.first (bookIn (a .book .now) (a .h)) state.flags)) (c .before .before .before .before .before .before .before .before .before .before .before .before .before .before .pre .0) (c .before .before .before .before .before .before .before .before .before .before .before .before .before .before .pre .1 .0) (c .before .before .before .before .before .before .before .before .before .before .before .before .before .before .pre .1 .1) (c .before .before .before .before .before .before .before .before .before .before .before .loop .inv) (c .before .before .before .before .before .before .before .before .before .before .loop-test .taken) (c .before .before .before .before .before .before .before .before .before .clause-at .ensures) (c .before .before .before .before .before .before .before .wide2 .ensures .0) (c .before .before .before .before .before .before .before .before .wide .ensures .0) (c .before .before .before .before .before .before .head-of .ensures)
-    (c .before .before .before .before .before .row-of .result) (c .before .before .before .before .before .row-of .ensures) in
-    record { fits = omega (arith, w .1 .0, c .before .before .before .before .before .before .before .before .before .before .before .before .before .before .good .1 .1 .0 .0) }
+add-i c = record { fits = omega (arith, asks (c .before .before .before .before .before) .0, c .before .before .before .before .before .before .before .before .before .before .before .before .before .before .good) }
 
 loop-less : tie.Need-loop-less Inv-loop μ-loop
 loop-less c = omega (arith, c .before .before .before .before .before .before .before .before .before .before .loop-test .taken)
 
 loop-again : tie.Need-loop-again Inv-loop μ-loop
 loop-again c =
-    let a = c .before .before .before .before .before .before .before .before .before .before .before .before .before .before .args in
-    move-more (a .book .now) (a .h) (a .list .now) (a .size) _ (traceDue (bookIn (a .book .now) (a .h)) state.flags (a .list .now) 0 (state.first (bookIn (a .book .now) (a .h)) state.flags)) (c .before .before .before .before .before .before .before .before .before .before .before .before .before .before .pre .0) (c .before .before .before .before .before .before .before .before .before .before .before .before .before .before .pre .1 .0) (c .before .before .before .before .before .before .before .before .before .before .before .before .before .before .pre .1 .1) (c .before .before .before .before .before .before .before .before .before .before .before .loop .inv) (c .before .before .before .before .before .before .before .before .before .before .loop-test .taken) (c .before .before .before .before .before .before .before .before .before .clause-at .ensures) (c .before .before .before .before .before .before .before .wide2 .ensures .0) (c .before .before .before .before .before .before .before .before .wide .ensures .0) (c .before .before .before .before .before .before .head-of .ensures)
-    (c .before .before .before .before .before .row-of .result) (c .before .before .before .before .before .row-of .ensures) (c .before .write-move .ensures)
+    let p = c .before .before .before .before .before .before .before .before .before .before .before .before .before .before .pre in
+    let t = c .before .before .before .before .before .before .before .before .before .before .before .loop in (
+      move-more (p .0) (p .1 .0) (p .1 .1 .0) (p .1 .1 .1) (t .flags) (t .rows) (t .inv .0) (c .before .before .before .before .before .before .before .before .before .before .loop-test .taken) (c .before .before .before .before .before .before .before .before .before .number-at .ensures) (c .before .before .before .before .before .before .before .before .cell .ensures .0) (c .before .before .before .before .before .before .before .cell2 .ensures .0) (t .inv .1) (t .inv .2) (c .before .before .before .before .before .put .ensures)
+          (c .before .write-move .ensures),
+      rw length-set (t .inv .1),
+      rw (c .before .before .before .before .before .put .ensures) (state.put-length _ (t .rows) ∙ t .inv .2),
+    )
 
 same-length : tie.Need-same-length Inv-loop μ-loop
-same-length c = put-length (c .before .loop .inv .put)
+same-length c = put-length (c .before .loop .inv .0 .put)
 
 returns : tie.Need-returns Inv-loop μ-loop
-returns c =
-    let a = c .before .before .before .before .args in
-    going-all (a .book .now) (a .h) (a .list .now) (a .size) _ (traceDue (bookIn (a .book .now) (a .h)) state.flags (a .list .now) 0 (state.first (bookIn (a .book .now) (a .h)) state.flags)) (c .before .loop .inv) (c .loop-test .left)
+returns c = going-all (c .before .loop .inv .0) (c .loop-test .left)
 
 pub write-steps-spec : {M : Type 1} → statement M
 write-steps-spec =
@@ -95,16 +104,13 @@ write-steps-spec =
     μ-loop
     (λ c κs. search needs)
     loop-holds
-    clause-at-requires
     (λ c κs. search needs)
+    cell-requires
     (λ c. search needs)
-    (λ c κs. search needs)
+    cell-requires-2
     array-write-flags
     (λ c. search needs)
-    (λ c κs. search needs)
-    row-of-requires
-    (λ c. search needs)
-    array-set-from-rows
+    put-requires
     write-move-requires
     add-at
     add-at-2

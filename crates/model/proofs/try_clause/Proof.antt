@@ -5,25 +5,18 @@ use mathlib.Core.Path.{_≡_, sym, _∙_}
 use Rattle.reply.specs.Answer.{says}
 use Rattle.cursor.proofs.Laws.{via}
 use Rattle.model.specs.Reply.{clauseAnswer}
-use Rattle.model.proofs.Trying.{front-start, ready-at, Padded, padded-first, padded-next, due, due-first, due-broken, due-next, due-none}
+use Rattle.model.proofs.Trying.{ready-at, Padded, padded-first, padded-next, due, due-first, due-broken, due-next, due-none}
 use Rattle.odometer.proofs.Laws.{capped-small}
-use Rattle.odometer.proofs.Totals.{window-open}
 use Rattle.model.proofs.try_clause.Statement.{statement}
 use Rattle.model.proofs.try_clause.Tie as tie
 
 abbrev Inv-loop : tie.InvT-loop
-Inv-loop book h k t model before start front n left₀ values₀ seen₀ left values seen =
+Inv-loop book h k t model before n left₀ values₀ seen₀ left values seen =
     (seen + left ≤ 2000001) × Padded n values
     × (due book h model k n left values seen ≡ clauseAnswer book h model k before)
 
 abbrev μ-loop : tie.MeasureT-loop
-μ-loop book h k t model before start front n left₀ values₀ seen₀ left values seen = left
-
-slice-aggregate-front : tie.Need-slice-aggregate-front Inv-loop μ-loop
-slice-aggregate-front c = search front-start
-
-count-of-requires : tie.Need-count-of-requires Inv-loop μ-loop
-count-of-requires c κs = search window-open
+μ-loop book h k t model before n left₀ values₀ seen₀ left values seen = left
 
 loop-holds : tie.Need-loop-holds Inv-loop μ-loop
 loop-holds c = (omega (arith, capped-small _ (c .before .count-of .ensures)), search padded-first, search due-first)
@@ -47,9 +40,8 @@ try-clause-spec =
     (tie.spec
     Inv-loop
     μ-loop
-    slice-aggregate-front
     (λ c κs. search needs)
-    count-of-requires
+    (λ c κs. search needs)
     (λ c κs. search needs)
     loop-holds
     (λ c. search needs)

@@ -7,8 +7,8 @@ use Rattle.model.proofs.weigh.Tie as tie
 array-read-at : tie.Need-array-read-at
 array-read-at c = search query-small
 
-truth-requires : tie.Need-truth-requires
-truth-requires c κs = ((omega arith, omega arith), search query-tree)
+walk-requires : tie.Need-walk-requires
+walk-requires c κs = ((omega arith, omega arith), search query-tree)
 
 returns : tie.Need-returns
 returns c = search weighing
@@ -30,7 +30,7 @@ weigh-spec =
     (λ c. search needs)
     array-read-at
     (λ c. search needs)
-    truth-requires
+    walk-requires
     (λ c κs. search needs)
     (λ c κs. search needs)
     returns

@@ -1,7 +1,7 @@
 use Prim.Native.Nat.{_≤_, _-_}
 use mathlib.Core.Path.{_≡_, refl, sym, _∙_}
 use native.Mathlib.Omega.{arith}
-use Rattle.facts.specs.Instance.{windows}
+use Rattle.book.specs.Windows.{windowsOf}
 use Rattle.models.specs.Odometer.{up}
 use Rattle.odometer.proofs.Turns.{turn-fits, turn-up, turn-back, turn-none}
 use Rattle.cursor.proofs.Laws.{via}
@@ -10,10 +10,10 @@ use Rattle.odometer.proofs.advance.Statement.{statement}
 use Rattle.odometer.proofs.advance.Tie as tie
 
 abbrev Inv-loop : tie.InvT-loop
-Inv-loop values₀ h n i₀ values i = (i ≤ 16) × (up (windows h) i values ≡ up (windows h) i₀ values₀)
+Inv-loop values₀ book h k n i₀ values i = (i ≤ 16) × (up (windowsOf book h k) i values ≡ up (windowsOf book h k) i₀ values₀)
 
 abbrev μ-loop : tie.MeasureT-loop
-μ-loop values₀ h n i₀ values i = i
+μ-loop values₀ book h k n i₀ values i = i
 
 loop-holds : tie.Need-loop-holds Inv-loop μ-loop
 loop-holds c = (omega arith, refl)
@@ -38,6 +38,7 @@ advance-spec =
     μ-loop
     loop-holds
     (λ c. search needs)
+    (λ c κs. search needs)
     (λ c. search needs)
     (λ c. search needs)
     add-one

@@ -7,7 +7,7 @@ use borrow.Author.Needs.{needs}
 use Rattle.book.specs.Meaning.{bookIn}
 use Rattle.models.specs.Walk.{sum}
 use Rattle.models.specs.Cap.{cap}
-use Rattle.odometer.proofs.Totals.{total-none, total-more, window-open, total-all}
+use Rattle.odometer.proofs.Totals.{total-none, total-more, total-all}
 use Rattle.odometer.proofs.Laws.{capped-small}
 use Rattle.odometer.proofs.total_of.Statement.{statement}
 use Rattle.odometer.proofs.total_of.Tie as tie
@@ -20,9 +20,6 @@ abbrev μ-loop : tie.MeasureT-loop
 
 loop-holds : tie.Need-loop-holds Inv-loop μ-loop
 loop-holds c = (omega arith, total-none _)
-
-count-of-requires : tie.Need-count-of-requires Inv-loop μ-loop
-count-of-requires c κs = search window-open
 
 add-capped : tie.Need-add-capped Inv-loop μ-loop
 add-capped c =
@@ -45,7 +42,7 @@ total-of-spec =
     μ-loop
     loop-holds
     (λ c κs. search needs)
-    count-of-requires
+    (λ c κs. search needs)
     add-capped
     (λ c κs. search needs)
     (λ c. search needs)

@@ -1,4 +1,3 @@
-use Rattle.facts.specs.Instance.{windows}
 use Rattle.odometer.proofs.Signed.{widths, result-fits}
 use borrow.Author.Needs.{needs}
 use Rattle.odometer.proofs.width_of.Statement.{statement}
@@ -18,11 +17,10 @@ add-result c = search widths
 
 cast-result-3 : tie.Need-cast-result-3
 cast-result-3 c =
-    let h = c .before .before .before .before .args .h in
+    let h = c .before .before .before .before .args .w in
     result-fits (h .lo) (h .hi) (search needs) (search needs) (search needs)
 
 returns : tie.Need-returns
-unfolding windows
 returns c = search widths
 
 pub width-of-spec : {M : Type 1} → statement M
