@@ -157,17 +157,18 @@ module _ {s : List ℕ} {h : Header} {t : List (List ℕ)} (w : Tabled s h t) {k
 
 -- ---- the head put into its row
 
-module _ {s : List ℕ} {h : Header} {t : List (List ℕ)} (w : Tabled s h t) {k : ℕ} (below : k < h .count) (l : List ℤ) (j : ℕ) {r p n : ℕ}
-    (q : r ≡ getD (getD t k []) 4 0) (u : p ≡ getD (getD t k []) 5 0) (v : n ≡ getD (getD t k []) 6 0) where
+module _ {s : List ℕ} {h : Header} {t : List (List ℕ)} (w : Tabled s h t) {k : ℕ} (below : k < h .count) (l : List ℤ) (j : ℕ) {r : ℕ} (q : r ≡ getD (getD t k []) 4 0) where
   pub head-few : r < 16
   head-few = omega (arith, head-below w below l j, relations-few s h (w .good))
 
-  pub head-small : n ≤ 8
-  head-small = omega (arith, head-full w below l j, arities-small s h (w .good) (getD (getD t k []) 4 0) (omega (arith, head-below w below l j, relations-are s h (w .good))))
+  -- where its arguments begin, and how many there are
+  module _ {p n : ℕ} (u : p ≡ getD (getD t k []) 5 0) (v : n ≡ getD (getD t k []) 6 0) where
+    pub head-small : n ≤ 8
+    head-small = omega (arith, head-full w below l j, arities-small s h (w .good) (getD (getD t k []) 4 0) (omega (arith, head-below w below l j, relations-are s h (w .good))))
 
-  pub head-valued : j + clauseAt (bookIn s h) k .vars ≤ length l → Valued s (length l) p j n
-  head-valued b = rw (u, v) (head-there w below l j b)
+    pub head-valued : j + clauseAt (bookIn s h) k .vars ≤ length l → Valued s (length l) p j n
+    head-valued b = rw (u, v) (head-there w below l j b)
 
-  pub head-put : (vs : List (List ℤ)) (row : List ℤ) → row ≡ over (valuesAt s l p j n) (getD vs r []) → set vs r row ≡ rowPut (head (bookIn s h) (stepAt (bookIn s h) k (drop j l))) vs
-  unfolding rowPut
-  head-put vs row e = rw (head-at w below l j, e, q, u, v)
+    pub head-put : (vs : List (List ℤ)) (row : List ℤ) → row ≡ over (valuesAt s l p j n) (getD vs r []) → set vs r row ≡ rowPut (head (bookIn s h) (stepAt (bookIn s h) k (drop j l))) vs
+    unfolding rowPut
+    head-put vs row e = rw (head-at w below l j, e, q, u, v)

@@ -1,6 +1,6 @@
 -- Rows that are written in place, rows that are loaded from a list, and rows and their windows.
 use mathlib.Core.Path.{_≡_, refl, sym, ap, _∙_}
-use mathlib.Core.Bool.{Bool, true, false, _&&_}
+use mathlib.Core.Bool.{Bool, true, false}
 use mathlib.Core.List.{List, [], _∷_, _++_, map, map-append}
 use Prim.Native.Nat.{ℕ, zero, suc, _+_, _^_, _≤_, _<_}
 use native.Mathlib.Nat.{not-suc-le-zero, le-of-suc-le-suc}
@@ -21,7 +21,7 @@ use Rattle.lists.specs.Compare.{allIn, firstOut}
 use Rattle.lists.specs.Trace.{sum, cut, allRows, firstOutRows}
 use Rattle.instance.proofs.Laws.{all-by, some-by}
 use Rattle.state.specs.State.{front, over, firstRows}
-use Rattle.state.specs.Laws.{front-length, front-more, front-next}
+use Rattle.state.specs.Laws.{front-more, front-next}
 use Rattle.state.proofs.Shape.{arity-cons, arity-none}
 
 -- ---- values put over the front of a row, one more
@@ -86,10 +86,6 @@ module _ (ns : List ℕ) (l : List ℤ) where
   pub loaded-all : (r : ℕ) → length ns ≤ r → loaded ns l r ≡ firstRows ns l
   unfolding loaded firstRows
   loaded-all r h = ap (λ (t : List (List ℤ)). front (replicate 8 (pos 0)) 16 (map (front (pos 0) 8) t)) (take-all r (cut ns l) (rw (cut-length ns l) h))
-
-  pub loaded-length : (r : ℕ) → length (loaded ns l r) ≡ 16
-  unfolding loaded
-  loaded-length r = front-length _ 16 _
 
   module _ (r : ℕ) (h : r < length ns) (few : length ns ≤ 16) where
     many : length (map (front (pos 0) 8) (take r (cut ns l))) ≡ r

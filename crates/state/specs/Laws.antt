@@ -172,7 +172,9 @@ module _ (ns : List ℕ) (fs : List Bool) (vs : List (List ℤ)) where
   pub state-put : (f : Fact) → length (f .vals) ≡ getD ns (f .rel) 0 → f .rel < length fs → f .rel < length vs
       → stateOf ns (set fs (f .rel) true) (rowPut f vs) ≡ write flags f (stateOf ns fs vs)
   unfolding stateOf
-  state-put f e h k = λ i. record { ctl = front-set false (length ns) fs (f .rel) true h i; rows = rows-put ns vs f e k i }
+  state-put f e h k =
+      ap (λ (κ : List Bool). placed flags κ ns (rowPut f vs)) (front-set false (length ns) fs (f .rel) true h)
+      ∙ placed-put flags (front false (length ns) fs) ns vs f e k
 
   pub state-many : (b : Book) → length (stateNumbers b flags (stateOf ns fs vs)) ≡ length ns + sum ns
   unfolding stateOf

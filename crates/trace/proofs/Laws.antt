@@ -32,9 +32,9 @@ use Rattle.instance.specs.Values.{numberOr, numberIn, Whole}
 use Rattle.instance.proofs.Laws.{number-is, values-length, out-whole, enabled-stop, enabled-met, enabled-unmet, instance-room}
 use Rattle.instance.proofs.Atoms.{head-at, head-there, head-below, head-full}
 use Rattle.asked.proofs.Judge.{need-yes, need-no, ends-well}
-use Rattle.state.specs.State.{stateOf, rowPut, firstRows, Sized}
-use Rattle.state.specs.Laws.{state-put, state-many, state-first, put-length}
-use Rattle.state.proofs.Shape.{relations-few, arities-few, arities-small, size-is}
+use Rattle.state.specs.State.{rowPut, firstRows, Sized}
+use Rattle.state.specs.Laws.{state-put, state-many, state-first}
+use Rattle.state.proofs.Shape.{relations-few, arities-few, arities-small}
 use Rattle.state.proofs.Difference.{diff-all}
 use Rattle.trace.specs.Step.{stateIn, enabled, nextState, ends}
 
@@ -196,9 +196,6 @@ module _ {s : List ℕ} {h : Header} {t : List (List ℕ)} (w : Tabled s h t) (l
 
         pub on-fits : j + more ≤ length l
         on-fits = omega (arith, stands .1, vars)
-
-        pub on-state : j + size (bookIn s h) flags ≤ length l
-        on-state = omega (arith, on-fits, z .is)
 
 -- the numbers of a state that the code walks
 pub state-numbers : (s : List ℕ) (h : Header) (fs : List Bool) (vs : List (List ℤ)) → length (stateNumbers (bookIn s h) flags (stateIn s h fs vs)) ≡ size (bookIn s h) flags

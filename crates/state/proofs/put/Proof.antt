@@ -15,9 +15,7 @@ cell-requires-3 : tie.Need-cell-requires-3
 cell-requires-3 c κs = let p = c .before .before .before .pre in (omega (arith, p .0 .few, p .1 .0), omega arith)
 
 few : (c : tie.After-cell3) → c .before .before .cell .result < 16
-few c =
-    let x = c .before .before .before .before in
-    head-few (x .pre .0) (x .pre .1 .0) (x .args .list .now) (x .args .from) (c .before .before .cell .ensures .0) (c .before .cell2 .ensures .0) (c .cell3 .ensures .0)
+few c = let x = c .before .before .before .before in head-few (x .pre .0) (x .pre .1 .0) (x .args .list .now) (x .args .from) (c .before .before .cell .ensures .0)
 
 mul-fill : tie.Need-mul-fill
 mul-fill c = let k = few c in search needs

@@ -1,12 +1,10 @@
-use Prim.Native.Nat.{_+_, _-_, _≤_, _<_}
+use Prim.Native.Nat.{_+_, _-_, _≤_}
 use native.Mathlib.Omega.{arith}
 use mathlib.Core.Path.{_≡_, sym, ap, _∙_}
-use lib.ListN.{length, getD, take, drop, length-drop}
-use lib.Seq.{getD-take, getD-drop, length-take-le}
-use lib.IntN.{pos}
+use lib.ListN.{length, take, drop, length-drop}
+use lib.Seq.{length-take-le}
 use borrow.Author.Needs.{needs}
 use Rattle.meaning.specs.Book.{placeWindow}
-use Rattle.lists.specs.Compare.{inside}
 use Rattle.book.specs.Meaning.{bookIn}
 use Rattle.instance.proofs.Laws.{Inside, inside-none, inside-more, out-all, out-first, window-inside}
 use Rattle.state.proofs.row_out.Statement.{statement}

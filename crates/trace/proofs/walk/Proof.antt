@@ -21,7 +21,7 @@ use Rattle.state.specs.State.{rowPut}
 use Rattle.state.specs.Laws.{put-length}
 use Rattle.state.proofs.Shape.{size-is}
 use Rattle.trace.specs.Step.{stateIn}
-use Rattle.trace.proofs.Laws.{due-end, due-stop, due-differs, due-on, stop-small, stop-whole, on-below, on-room, on-head, on-moved, on-at, on-fits, on-state, state-numbers, state-start}
+use Rattle.trace.proofs.Laws.{due-end, due-stop, due-differs, due-on, stop-small, stop-whole, on-below, on-room, on-head, on-moved, on-at, on-fits, state-numbers, state-start}
 use Rattle.trace.proofs.walk.Statement.{statement}
 use Rattle.trace.proofs.walk.Tie as tie
 
@@ -168,7 +168,7 @@ loop-again c =
     let z = x d .pre .1 .0 .is in (
       rw length-set (t d .loop .inv .0),
       ap length (c .before .before .before .before .before .put .ensures) ∙ put-length _ _ ∙ t d .loop .inv .1,
-      fits d (c .before .before .before .before .cell2 .ensures .0),
+      omega (arith, fits d (c .before .before .before .before .cell2 .ensures .0)),
       via (t d .loop .inv .3)
           (due-on (b d) meant.flags (goal (x d .args .relation) (x d .args .values .now)) (l d) (t d .loop .i) (σ d) (lt d) (d .before .before .step-at .ensures) (d .before .if1 .left) _
           (moved d _ (c .before .before .before .before .before .before .before .cell .ensures .0) (c .before .before .before .before .before .put .ensures))
