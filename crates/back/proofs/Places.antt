@@ -5,7 +5,7 @@ use mathlib.Core.Option.{Option, none, some}
 use mathlib.Core.List.{List, []}
 use Prim.Native.Nat.{ℕ, _≤_, _<_}
 use native.Mathlib.Omega.{arith}
-use lib.ListN.{length, getD}
+use lib.ListN.{getD}
 use lib.IntN.{ℤ, pos}
 use borrow.Author.Tests.{eq-eqb, ne-eqb}
 use Rattle.meaning.specs.Book.{Book, Atom}
@@ -20,7 +20,7 @@ use Rattle.book.specs.Read.{read}
 use Rattle.book.specs.Meaning.{bookIn}
 use Rattle.book.specs.Trailer.{read-trailed}
 use Rattle.book.specs.Arities.{relations-are}
-use Rattle.table.specs.Table.{Seated, SeatedBody, Tabled}
+use Rattle.table.specs.Table.{SeatedBody, Tabled}
 use Rattle.instance.specs.Values.{numberOr}
 use Rattle.steps.specs.Walk.{Here}
 use Rattle.steps.proofs.Places.{here-row}

@@ -13,7 +13,7 @@ use Rattle.reply.specs.declared.Refusal.{Refusal}
 use Rattle.reply.specs.declared.Answer as code
 use Rattle.reply.specs.declared.Answer.the-variants.{Done, Refused}
 use Rattle.reply.specs.Answer.{Answer, refused, ok, need, andThen, refuse, says, told}
-use Rattle.reply.specs.Among.{told-done, told-ok, told-no}
+use Rattle.reply.specs.Among.{told-ok, told-no}
 use Rattle.reply.specs.Room.{written, Leaves, written-wrote, written-needs, written-fair, fair-length}
 use Rattle.meaning.specs.Book.{Book}
 use Rattle.meaning.specs.State.{Control, flags}

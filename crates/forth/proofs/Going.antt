@@ -18,7 +18,7 @@ use Rattle.book.specs.declared.Reading.the-variants.{Good}
 use Rattle.book.specs.Read.{read}
 use Rattle.book.specs.Meaning.{bookIn}
 use Rattle.table.specs.Table.{Tabled}
-use Rattle.instance.specs.Values.{numberOr, numberIn, valuesAt}
+use Rattle.instance.specs.Values.{numberOr, numberIn}
 use Rattle.instance.proofs.Laws.{number-is, values-length}
 use Rattle.instance.proofs.Atoms.{head-at, head-there, head-below, head-full}
 use Rattle.state.specs.State.{stateOf, rowPut, Sized}

@@ -1,5 +1,5 @@
 -- The starts of a list's steps, and the row of each one's clause.
-use mathlib.Core.Path.{_≡_, sym, ap}
+use mathlib.Core.Path.{_≡_, ap}
 use mathlib.Core.List.{List, []}
 use Prim.Native.Nat.{ℕ, zero, suc, _+_, _*_, _≤_, _<_}
 use native.Mathlib.Nat.{add-zero, add-suc}
@@ -7,7 +7,7 @@ use native.Mathlib.Omega.{arith}
 use lib.ListN.{length, getD}
 use lib.IntN.{ℤ, pos}
 use Rattle.meaning.specs.Book.{Book}
-use Rattle.lists.specs.Places.{after, start, start-first, start-next}
+use Rattle.lists.specs.Places.{after, start, start-next}
 use Rattle.book.specs.declared.Header.{Header}
 use Rattle.book.specs.Meaning.{bookIn}
 use Rattle.book.specs.Joined.{count-is}
@@ -62,9 +62,6 @@ module _ (s : List ℕ) (h : Header) (l : List ℤ) (z : ℕ) where
         there = rw e (omega (arith, one .there, count-is s h (w .good)));
         whole = rw e (omega (arith, full, start-next (bookIn s h) z l i k));
       }
-
-  pub here-first : {i : ℕ} → Walk s h l z i → i < length l → Here s h l z i
-  here-first {i} w q = here-at w 0 i (sym (start-first (bookIn s h) z l i)) q
 
   pub walk-from : {i : ℕ} → Walk s h l z i → (j : ℕ) → Walk s h l z (start (bookIn s h) z l i j)
   walk-from {i} w j = record {

@@ -20,10 +20,7 @@ module _ {d e : List ℤ} {at : ℕ} {p : List ℤ} (w : Put d e at p) where
   pub put-length : length e ≡ length d
   put-length = ap length (w .is) ∙ simp length-append (omega (arith, w .room, front, length-drop (at + length p) d))
 
-  -- what stands before, and from there on
-  pub put-before : take at e ≡ take at d
-  put-before = ap (take at) (w .is) ∙ take-at (take at d) _ at front
-
+  -- what stands from there on
   pub put-from : drop at e ≡ p ++ drop (at + length p) d
   put-from = ap (drop at) (w .is) ∙ drop-at (take at d) _ at front
 

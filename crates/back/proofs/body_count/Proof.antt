@@ -1,4 +1,3 @@
-use borrow.Author.Needs.{needs}
 use native.Mathlib.Omega.{arith}
 use Rattle.back.proofs.Laws.{count-none, count-some}
 use Rattle.back.proofs.body_count.Statement.{statement}
