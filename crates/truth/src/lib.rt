@@ -233,7 +233,8 @@ pub fn walk(s: &[u8], p: usize, v: u8, values: &[i32], from: usize) -> bool
     }
 }
 
-// The same, for a call at each step: a constraint that is true or a comparison is judged without the walk.
+// The same, for a call at each step: a constraint that is true or a comparison is judged without the walk. The bytes are lent on as a part made here:
+// a copy of the pair that was lent would stall where the caller has just stored it.
 pub fn truth(s: &[u8], p: usize, v: u8, values: &[i32], from: usize) -> bool
     requires { ⌜ (v ≤ 16) × (from + v ≤ length (now values)) ⌝ }
     requires { ⌜ IsTree (now s) v p ⌝ }
@@ -244,6 +245,7 @@ pub fn truth(s: &[u8], p: usize, v: u8, values: &[i32], from: usize) -> bool
         let l = judged(k, s, p, v as usize, values, from);
         l.met
     } else {
-        walk(s, p, v, values, from)
+        let n = s.len();
+        walk(&s[..n], p, v, values, from)
     }
 }
