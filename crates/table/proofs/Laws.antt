@@ -34,22 +34,23 @@ part-front [] (suc m) (suc p) n h = refl
 part-front (x ∷ s) zero (suc p) n h = absurd (let z : ⊥ = omega arith in z)
 part-front (x ∷ s) (suc m) (suc p) n h = part-front s m p n (omega arith)
 
-module _ (s : List ℕ) (r p : ℕ) where
+module _ (r p : ℕ) where
   pub seat-none : r ≡ 255 → seatOf r p ≡ 0
   unfolding seatOf pick
-  seat-none h = rw (eq-eqb r 255 h)
-
-  pub many-none : r ≡ 255 → manyOf s r ≡ 0
-  unfolding manyOf pick
-  many-none h = rw (eq-eqb r 255 h)
+  seat-none n = rw (eq-eqb r 255 n)
 
   pub seat-some : (r ≡ 255 → ⊥) → seatOf r p ≡ p + 1
   unfolding seatOf pick
-  seat-some h = rw (ne-eqb r 255 h)
+  seat-some n = rw (ne-eqb r 255 n)
 
-  pub many-some : (r ≡ 255 → ⊥) → manyOf s r ≡ getD s r 0
+module _ (s : List ℕ) (h : Header) (r : ℕ) where
+  pub many-none : r ≡ 255 → manyOf s h r ≡ 0
   unfolding manyOf pick
-  many-some h = rw (ne-eqb r 255 h)
+  many-none n = rw (eq-eqb r 255 n)
+
+  pub many-some : (r ≡ 255 → ⊥) → manyOf s h r ≡ getD (bookIn s h .arities) r 0
+  unfolding manyOf pick
+  many-some n = rw (ne-eqb r 255 n)
 
 module _ (s : List ℕ) (h : Header) (good : read s ≡ Good h) (k : ℕ) (c : Clause) (w : Held s h k c) where
   abbrev f : List ℕ
@@ -75,28 +76,28 @@ module _ (s : List ℕ) (h : Header) (good : read s ≡ Good h) (k : ℕ) (c : C
   arity-front : (r : ℕ) → r < h .relations → getD f r 0 ≡ getD s r 0
   arity-front r b = let t = read-trailed s h good .kept in getD-take (h .start) s r 0 (omega arith)
 
-  seated : (r p : ℕ) → r < h .relations → Arguments f (c .variables) (p + 1) (getD f r 0) → Seated s h (c .variables) (atomIn f r p) r (seatOf r p) (manyOf s r)
+  seated : (r p : ℕ) → r < h .relations → Arguments f (c .variables) (p + 1) (getD f r 0) → Seated s h (c .variables) (atomIn f r p) r (seatOf r p) (manyOf s h r)
   unfolding atomIn
   seated r p b a =
       let n = some-relation r b in
-      let e = arity-front r b in
-      rw (seat-some s r p n, many-some s r p n, ← e) (record {
+      let e = arity-front r b ∙ sym (arity-is s h good r b) in
+      rw (seat-some r p n, many-some s h r n, ← e) (record {
         is = refl;
         below = b;
-        full = e ∙ sym (arity-is s h good r b);
-        few = omega (arith, e, arity-small s h good r b);
+        full = e;
+        few = omega (arith, arity-front r b, arity-small s h good r b);
         args = take-whole (p + 1) (getD f r 0) (a .within);
         arguments = arguments-whole _ _ _ a;
       })
 
   -- the row says what the meaning's clause is
   body-says : (c .body ≡ 255) ⊎ ((c .body < h .relations) × Arguments f (c .variables) (c .«body_at» + 1) (getD f (c .body) 0)) →
-      SeatedBody s h (c .variables) (bodyIn f (c .body) (c .«body_at»)) (c .body) (seatOf (c .body) (c .«body_at»)) (manyOf s (c .body))
+      SeatedBody s h (c .variables) (bodyIn f (c .body) (c .«body_at»)) (c .body) (seatOf (c .body) (c .«body_at»)) (manyOf s h (c .body))
   unfolding SeatedBody bodyIn pick
   body-says (inl e) = rw (eq-eqb (c .body) 255 e) e
   body-says (inr (b, a)) = rw (ne-eqb (c .body) 255 (some-relation (c .body) b)) (seated (c .body) (c .«body_at») b a)
 
-  pub row-says : Row s h k (rowOf s c)
+  pub row-says : Row s h k (rowOf s h c)
   unfolding rowOf clauseIn
   row-says =
       let x = w .sound in
@@ -111,11 +112,11 @@ module _ (s : List ℕ) (h : Header) (good : read s ≡ Good h) (k : ℕ) (c : C
       }
 
   body-fits : (c .body ≡ 255) ⊎ ((c .body < h .relations) × Arguments f (c .variables) (c .«body_at» + 1) (getD f (c .body) 0))
-      → (c .body ≡ 255 → ⊥) → (c .«body_at» < 60000) × (c .body < length s)
+      → (c .body ≡ 255 → ⊥) → (c .«body_at» < 60000) × (c .body < h .relations)
   body-fits (inl e) n = absurd (n e)
-  body-fits (inr (b, a)) n = let t = read-trailed s h good in let y = t .kept in (omega (arith, a .within, long, t .short), omega arith)
+  body-fits (inr (b, a)) n = let t = read-trailed s h good in let y = t .kept in (omega (arith, a .within, long, t .short), b)
 
-  pub row-fits : Fits s c
+  pub row-fits : Fits h c
   row-fits =
       let x = w .sound in
       let t = read-trailed s h good in
@@ -125,7 +126,7 @@ module _ (s : List ℕ) (h : Header) (good : read s ≡ Good h) (k : ℕ) (c : C
         seat = λ n. body-fits (x .body) n .0;
         body = λ n. body-fits (x .body) n .1;
         place = λ n. omega (arith, x .place, long, t .short);
-        head = λ n. omega (arith, x .head);
+        head = λ n. x .head;
         rule = omega (arith, long, t .short);
         variables = omega (arith, x .few);
       }

@@ -19,28 +19,28 @@ use Rattle.book.specs.Meaning.{bookIn}
 unfoldable pub seatOf : ℕ → ℕ → ℕ
 seatOf r p = pick (eqb r 255) 0 (p + 1)
 
-unfoldable pub manyOf : List ℕ → ℕ → ℕ
-manyOf s r = pick (eqb r 255) 0 (getD s r 0)
+unfoldable pub manyOf : List ℕ → Header → ℕ → ℕ
+manyOf s h r = pick (eqb r 255) 0 (getD (bookIn s h .arities) r 0)
 
 -- the row of the clause that stands where c says
-unfoldable pub rowOf : List ℕ → Clause → List ℕ
-rowOf s c =
+unfoldable pub rowOf : List ℕ → Header → Clause → List ℕ
+rowOf s h c =
     c .variables
     ∷ c .body
     ∷ seatOf (c .body) (c .«body_at»)
-    ∷ manyOf s (c .body)
+    ∷ manyOf s h (c .body)
     ∷ c .head
     ∷ seatOf (c .head) (c .«head_at»)
-    ∷ manyOf s (c .head)
+    ∷ manyOf s h (c .head)
     ∷ c .rule
     ∷ []
 
 -- its places are numbers of a row
-pub record Fits (s : List ℕ) (c : Clause) : Type 0 where
+pub record Fits (h : Header) (c : Clause) : Type 0 where
   pub seat : (c .body ≡ 255 → ⊥) → c .«body_at» < 60000
-  pub body : (c .body ≡ 255 → ⊥) → c .body < length s
+  pub body : (c .body ≡ 255 → ⊥) → c .body < h .relations
   pub place : (c .head ≡ 255 → ⊥) → c .«head_at» < 60000
-  pub head : (c .head ≡ 255 → ⊥) → c .head < length s
+  pub head : (c .head ≡ 255 → ⊥) → c .head < h .relations
   pub rule : c .rule < 65536
   pub variables : c .variables < 256
 

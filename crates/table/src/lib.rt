@@ -49,26 +49,31 @@ fn seat_of(r: u8, p: usize) -> u16
 }
 
 // how many there are
-fn many_of(book: &[u8], r: u8) -> u16
-    requires { ⌜ ((r ≡ 255 → ⊥) → r < length (now book)) ⌝ }
-    ensures { λ q. ⌜ q ≡ manyOf (now (book .entry)) r ⌝ }
+fn many_of(book: &[u8], h: book::Header, r: u8) -> u16
+    requires { ⌜ read (now book) ≡ Good h ⌝ }
+    requires { ⌜ ((r ≡ 255 → ⊥) → r < h .relations) ⌝ }
+    ensures { λ q. ⌜ q ≡ manyOf (now (book .entry)) h r ⌝ }
 {
-    if r == 255 { 0 } else { short(book[r as usize]) }
+    if r == 255 {
+        return 0;
+    }
+    book::arity_of(book, h, r as usize) as u16
 }
 
 // a clause's row
-fn row_of(book: &[u8], c: cursor::Clause) -> [u16; 8]
-    requires { ⌜ Fits (now book) c ⌝ }
-    ensures { λ r. ⌜ r ≡ rowOf (now (book .entry)) c ⌝ }
+fn row_of(book: &[u8], h: book::Header, c: cursor::Clause) -> [u16; 8]
+    requires { ⌜ read (now book) ≡ Good h ⌝ }
+    requires { ⌜ Fits h c ⌝ }
+    ensures { λ r. ⌜ r ≡ rowOf (now (book .entry)) h c ⌝ }
 {
     [
         short(c.variables),
         short(c.body),
         seat_of(c.body, c.body_at),
-        many_of(book, c.body),
+        many_of(book, h, c.body),
         short(c.head),
         seat_of(c.head, c.head_at),
-        many_of(book, c.head),
+        many_of(book, h, c.head),
         c.rule as u16,
     ]
 }
@@ -81,7 +86,7 @@ pub fn table_of(book: &[u8], h: book::Header) -> [[u16; 8]; 64]
     let mut table = [[0u16; 8]; 64];
     let mut k = 0;
     while k < h.count {
-        table[k] = row_of(book, book::record(book, h, k));
+        table[k] = row_of(book, h, book::record(book, h, k));
         k += 1;
     }
     table

@@ -22,7 +22,7 @@ loop-holds c =
     (refl, w .count, omega arith, λ j b. absurd (let z : ⊥ = omega arith in z))
 
 row-of-requires : tie.Need-row-of-requires Inv-loop μ-loop
-row-of-requires c κs = let a = c .before .before .before .before .before in row-fits _ _ (a .pre) _ _ (c .«record» .ensures)
+row-of-requires c κs = let a = c .before .before .before .before .before in (a .pre, row-fits _ _ (a .pre) _ _ (c .«record» .ensures))
 
 loop-again : tie.Need-loop-again Inv-loop μ-loop
 loop-again c =
