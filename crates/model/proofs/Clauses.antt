@@ -107,7 +107,7 @@ module _ (b : Book) (m : List Constraint) where
 -- ---- what trying a clause asks
 
 module _ (s : List ℕ) (h : Header) (t l : List ℕ) (k : ℕ) (task : Task) (good : read s ≡ Good h) where
-  pub asked-task : Started t (take (h .relations) s) l → Taken s h k l task → Tasked s h t k task
+  pub asked-task : Started t (bookIn s h .arities) l → Taken s h k l task → Tasked s h t k task
   asked-task st w = tasks.tasked s h good t l st k task w
 
   pub asked-count : k < h .count → Taken s h k l task → total (bookIn s h) ≤ 1000000 → count (windowsOf s h k) (task .clause .variables) ≤ 1000000

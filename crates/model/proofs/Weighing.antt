@@ -56,7 +56,7 @@ many-of n e l = ⊎-elim (λ h. h) (λ h. absurd (let z : ⊥ = omega (arith, ca
 pub query-small : (s : List ℕ) (h : Header) {q : ℕ} → read s ≡ Good h → q ≡ h .query → q < 16
 query-small s h good e = let k = read-trailed s h good .kept in omega arith
 
-module _ (s : List ℕ) (h : Header) (t l : List ℕ) {q : ℕ} (good : read s ≡ Good h) (st : Started t (take (h .relations) s) l) (e : q ≡ h .query) where
+module _ (s : List ℕ) (h : Header) (t l : List ℕ) {q : ℕ} (good : read s ≡ Good h) (st : Started t (bookIn s h .arities) l) (e : q ≡ h .query) where
   abbrev b : Book
   b = bookIn s h
 
@@ -104,28 +104,22 @@ module _ (s t : List ℕ) (y : Reading) (a : Answers s y) where
     pub good-read : read s ≡ Good h
     good-read = sym (a .is) ∙ e
 
-    pub relations-few : h .relations ≤ 16
-    relations-few = read-trailed s h good-read .kept .few
-
-    pub relations-room : h .relations ≤ length s
-    relations-room = let k = read-trailed s h good-read .kept in omega arith
-
     answered : modelAnswer s t ≡ examine (bookIn s h) t
     unfolding modelAnswer
     answered = by-good s (λ n p. plain (refused n p) 0) (λ b. examine b t) a e
 
-    module _ (x : Scan) (w : Scanned t (take (h .relations) s) x) where
-      pub started : {d : Cursor} → x .end ≡ steps.Moved d → Started t (take (h .relations) s) (x .starts)
+    module _ (x : Scan) (w : Scanned t (bookIn s h .arities) x) where
+      pub started : {d : Cursor} → x .end ≡ steps.Moved d → Started t (bookIn s h .arities) (x .starts)
       started {d} p = record { starts = w .starts; end = d; passed = sym (w .end) ∙ p }
 
       pub reply-model : (r : code.Reply) {f : Refusal} → x .end ≡ steps.Refused f → told r ≡ plain (says (Refused f)) 0 → Replies s t r
       unfolding examine judged bookIn says
-      reply-model r p q = record { tells = q ∙ sym (answered ∙ rw (pass-refused t (take (h .relations) s) (sym (w .end) ∙ p))) }
+      reply-model r p q = record { tells = q ∙ sym (answered ∙ rw (pass-refused t (bookIn s h .arities) (sym (w .end) ∙ p))) }
 
       pub reply-weighed : (r : code.Reply) {d : Cursor} → x .end ≡ steps.Moved d → told r ≡ weighed (bookIn s h) (partsIn t (bookIn s h .arities)) → Replies s t r
       unfolding examine judged bookIn partsOf
       reply-weighed r p q =
-          let (ps, k) = pass-moved t (take (h .relations) s) (sym (w .end) ∙ p) in
+          let (ps, k) = pass-moved t (bookIn s h .arities) (sym (w .end) ∙ p) in
           record { tells = q ∙ sym (answered ∙ rw k) }
 
-pub ruleset replies = (reply-refused, good-read, relations-few, relations-room, started, reply-model, reply-weighed)
+pub ruleset replies = (reply-refused, good-read, started, reply-model, reply-weighed)

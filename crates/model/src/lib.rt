@@ -73,7 +73,7 @@ fn try_clause(
 // all clauses in order
 fn try_all(book: &[u8], h: book::Header, model: &[u8], starts: [usize; 16]) -> Reply
     requires { ⌜ read (now book) ≡ Good h ⌝ }
-    requires { ⌜ Started (now model) (take (h .relations) (now book)) starts ⌝ }
+    requires { ⌜ Started (now model) (bookIn (now book) h .arities) starts ⌝ }
     requires { ⌜ total (bookIn (now book) h) ≤ 1000000 ⌝ }
     ensures { λ r. ⌜ told r ≡ walkAnswer (now (book .entry)) h (now (model .entry)) ⌝ }
 {
@@ -97,7 +97,7 @@ fn try_all(book: &[u8], h: book::Header, model: &[u8], starts: [usize; 16]) -> R
 // the query's constraint, the number of assignments, and all clauses
 fn weigh(book: &[u8], h: book::Header, model: &[u8], starts: [usize; 16]) -> Reply
     requires { ⌜ read (now book) ≡ Good h ⌝ }
-    requires { ⌜ Started (now model) (take (h .relations) (now book)) starts ⌝ }
+    requires { ⌜ Started (now model) (bookIn (now book) h .arities) starts ⌝ }
     ensures { λ r. ⌜ told r ≡ weighedAnswer (now (book .entry)) h (now (model .entry)) ⌝ }
 {
     let q = whole::wide(h.query);
@@ -120,7 +120,7 @@ pub fn check(book: &[u8], model: &[u8]) -> Reply
     let book::Reading::Good(h) = read else {
         return simply(book::refused_by(read), 0);
     };
-    let scan = parts::read_model(model, book, h.relations);
+    let scan = parts::read_model(model, book, h);
     let starts = scan.starts;
     let end = scan.end;
     match end {

@@ -13,7 +13,7 @@ use borrow.Author.Tests.{lt-ltb, eqb-false}
 use Rattle.meaning.specs.Constraint.{truth, holds}
 use Rattle.meaning.specs.Book.{at, atBody, head, body}
 use Rattle.cursor.specs.declared.Clause.{Clause}
-use Rattle.cursor.specs.Steps.{pick, valueThen}
+use Rattle.cursor.specs.Steps.{pick}
 use Rattle.cursor.specs.Tree.{got}
 use Rattle.cursor.specs.Meaning.{atomIn, bodyIn, treeIn, clauseIn}
 use Rattle.cursor.specs.Sound.{Sound, Arguments}
@@ -23,7 +23,7 @@ use Rattle.book.specs.declared.Reading.the-variants.{Good}
 use Rattle.book.specs.Read.{read}
 use Rattle.book.specs.Meaning.{bookIn}
 use Rattle.book.specs.Trailer.{read-trailed}
-use Rattle.book.specs.Arities.{arity-small, arity-query}
+use Rattle.book.specs.Arities.{relations-are, arity-is, arity-small}
 use Rattle.models.specs.Read.{Part, modelIn, rulesOf}
 use Rattle.models.specs.Walk.{step, satisfies, met, breaks}
 use Rattle.models.specs.Answer.{no-part}
@@ -53,15 +53,15 @@ arguments-more s v m p n h a = record { within = a .within; each = λ j l. omega
 module _ (s : List ℕ) (h : Header) (good : read s ≡ Good h) where
   -- ---- a relation in a model that was read
 
-  module _ (t l : List ℕ) (st : Started t (take (h .relations) s) l) where
+  module _ (t l : List ℕ) (st : Started t (bookIn s h .arities) l) where
     abbrev ns : List ℕ
-    ns = take (h .relations) s
+    ns = bookIn s h .arities
 
     abbrev front : List ℕ
     front = take (h .start) s
 
     pub relations-length : length ns ≡ h .relations
-    relations-length = let k = read-trailed s h good .kept in length-take-le (h .relations) s (omega arith)
+    relations-length = relations-are s h good
 
     pub read-parts : (ps : List Part) × (modelIn t ns ≡ got ps (st .end))
     read-parts = pass-moved t ns (st .passed)
@@ -71,15 +71,15 @@ module _ (s : List ℕ) (h : Header) (good : read s ≡ Good h) where
         let k = read-trailed s h good .kept in
         let len : length ns ≤ 16 = omega (arith, relations-length) in
         let p = parts-start t ns (replicate 16 0) (read-parts .0) (st .end) (read-parts .1) len r (omega (arith, relations-length)) in
-        rw (← (st .starts), getD-take (h .relations) s r 0 b) at p
+        rw (← (st .starts), arity-is s h good r b) at p
 
     rule-of : (r : ℕ) → getD (rulesIn t ns) r truth ≡ getD (read-parts .0) r no-part .rule
     unfolding rulesOf
     rule-of r = rw (read-parts .1) (List·getD-map (λ (p : Part). p .rule) (read-parts .0) r no-part)
 
-    half-is : (r : ℕ) → r < h .relations → halfOf s l r ≡ record { places = getD s r 0; rule = getD l r 0 }
-    unfolding halfOf valueThen pick
-    half-is r b = let k = read-trailed s h good .kept in rw (lt-ltb r 16 (omega arith), lt-ltb r (length s) (omega arith))
+    half-is : (r : ℕ) → r < h .relations → halfOf s h l r ≡ record { places = getD s r 0; rule = getD l r 0 }
+    unfolding halfOf pick
+    half-is r b = rw (lt-ltb r (h .relations) b, arity-is s h good r b)
 
     front-is : (r : ℕ) → r < h .relations → getD front r 0 ≡ getD s r 0
     front-is r b = let k = read-trailed s h good .kept in getD-take (h .start) s r 0 (omega arith)

@@ -73,19 +73,15 @@ pub record Ready (s : List ℕ) (m : ℕ) (t : List ℕ) (k : Task) : Type 0 whe
   pub body : (k .clause .body ≡ 255 → ⊥) → Side s m t (k .clause .«body_at») (k .body .places) (k .body .rule)
   pub head : Side s m t (k .clause .«head_at») (k .head .places) (k .head .rule)
 
--- relation r of the book s in a model with these starts
-unfoldable pub halfOf : List ℕ → List ℕ → ℕ → Half
-halfOf s l r =
-    valueThen r λ i.
-    pick (ltb i 16)
-    (pick (ltb i (length s)) (record { places = getD s i 0; rule = getD l i 0 }) (record { places = 0; rule = 0 }))
-    (record { places = 0; rule = 0 })
+-- relation r of the book in a model with these starts
+unfoldable pub halfOf : List ℕ → Header → List ℕ → ℕ → Half
+halfOf s h l r = pick (ltb r (h .relations)) (record { places = getD (bookIn s h .arities) r 0; rule = getD l r 0 }) (record { places = 0; rule = 0 })
 
 -- the task k is put together from clause i of the book s
 pub record Taken (s : List ℕ) (h : Header) (i : ℕ) (l : List ℕ) (k : Task) : Type 0 where
   pub held : Held s h i (k .clause)
-  pub body : k .body ≡ halfOf s l (k .clause .body)
-  pub head : k .head ≡ halfOf s l (k .clause .head)
+  pub body : k .body ≡ halfOf s h l (k .clause .body)
+  pub head : k .head ≡ halfOf s h l (k .clause .head)
 
 -- the task k is that of clause i of the book s, with the model t
 pub record Tasked (s : List ℕ) (h : Header) (t : List ℕ) (i : ℕ) (k : Task) : Type 0 where

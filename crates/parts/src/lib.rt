@@ -7,6 +7,7 @@ ghost use Rattle.meaning.specs.Constraint.{holds};
 ghost use Rattle.cursor.specs.Sound.{Arguments};
 ghost use Rattle.cursor.specs.Meaning.{treeIn};
 ghost use Rattle.book.specs.Read.{read};
+ghost use Rattle.book.specs.Meaning.{bookIn};
 ghost use Rattle.book.specs.declared.Reading.the-variants.{Good};
 ghost use Rattle.models.specs.Read.{numberIn, ruleAt, passAt};
 ghost use Rattle.parts.specs.Task.{placesOf, metIn, breaksIn, Side, Ready, Scanned, Taken, halfOf};
@@ -53,18 +54,19 @@ fn rule(c: cursor::Cursor, model: &[u8], n: u8) -> cursor::Step
     }
 }
 
-// The whole model of a book with n relations, whose arities stand at the book's front
-pub fn read_model(model: &[u8], book: &[u8], n: u8) -> Scan
-    requires { ⌜ (n ≤ 16) × (n ≤ length (now book)) ⌝ }
-    ensures { λ r. ⌜ Scanned (now (model .entry)) (take n (now (book .entry))) r ⌝ }
+// The whole model of an accepted book
+pub fn read_model(model: &[u8], book: &[u8], h: book::Header) -> Scan
+    requires { ⌜ read (now book) ≡ Good h ⌝ }
+    ensures { λ r. ⌜ Scanned (now (model .entry)) (bookIn (now (book .entry)) h .arities) r ⌝ }
 {
+    let n = whole::wide(h.relations);
     let mut starts = [0usize; 16];
     let mut c = cursor::Cursor { at: 0, left: 0 };
     let mut k = 0;
-    while k < n as usize {
+    while k < n {
         let at = c.at;
         starts[k] = at;
-        match rule(c, model, book[k]) {
+        match rule(c, model, book::arity_of(book, h, k) as u8) {
             cursor::Step::Refused(r) => {
                 return Scan {
                     starts: starts,
@@ -159,17 +161,16 @@ pub fn breaks_at(s: &[u8], t: Task, values: &[i32], model: &[u8]) -> bool
 // ---- one clause
 
 // relation r in the model
-fn half_of(book: &[u8], r: u8, starts: [usize; 16]) -> Half
-    ensures { λ x. ⌜ x ≡ halfOf (now (book .entry)) starts r ⌝ }
+fn half_of(book: &[u8], h: book::Header, r: u8, starts: [usize; 16]) -> Half
+    requires { ⌜ read (now book) ≡ Good h ⌝ }
+    ensures { λ x. ⌜ x ≡ halfOf (now (book .entry)) h starts r ⌝ }
 {
-    let i = whole::wide(r);
-    if i < 16 {
-        if i < book.len() {
-            return Half {
-                places: book[i],
-                rule: starts[i],
-            };
-        }
+    if r < h.relations {
+        let i = whole::wide(r);
+        return Half {
+            places: book::arity_of(book, h, i) as u8,
+            rule: starts[i],
+        };
     }
     Half { places: 0, rule: 0 }
 }
@@ -181,8 +182,8 @@ pub fn task_of(book: &[u8], h: book::Header, k: usize, starts: [usize; 16]) -> T
     ensures { λ r. ⌜ Taken (now (book .entry)) h k starts r ⌝ }
 {
     let l = book::record(book, h, k);
-    let body = half_of(book, l.body, starts);
-    let head = half_of(book, l.head, starts);
+    let body = half_of(book, h, l.body, starts);
+    let head = half_of(book, h, l.head, starts);
     Task {
         clause: l,
         body: body,

@@ -7,7 +7,7 @@ returns : tie.Need-returns
 returns c = search replies
 
 read-model-requires : tie.Need-read-model-requires
-read-model-requires c κs = (search replies, search replies)
+read-model-requires c κs = search replies
 
 weigh-requires : tie.Need-weigh-requires
 weigh-requires c κs = (search replies, search replies)
