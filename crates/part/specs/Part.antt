@@ -3,8 +3,9 @@ use Prim.Native.Nat.{ℕ}
 use Rattle.sexp.specs.Sexp.{Sexps}
 use Rattle.script.specs.Terms.{limits}
 use Rattle.term.specs.declared.Row.{Row}
-use Rattle.term.specs.declared.Window.{Window}
-use Rattle.term.specs.Name.{itemName, windowOf}
+use Rattle.book.specs.declared.Window.{Window}
+use Rattle.book.specs.Windows.{windowOf}
+use Rattle.term.specs.Name.{itemName}
 
 unfoldable pub rowLimits : Window → Row → ℕ → Sexps
 rowLimits o row i = limits (windowOf o) (itemName row i)

@@ -8,7 +8,7 @@ ghost use Rattle.put.specs.Shows.{Lists};
 ghost use Rattle.cursor.specs.Sound.{Sound};
 ghost use Rattle.cursor.specs.Meaning.{atomIn, bodyIn, clauseIn};
 ghost use Rattle.script.specs.Lines as lines;
-ghost use Rattle.term.specs.Name.{windowOf};
+ghost use Rattle.book.specs.Windows.{windowOf};
 ghost use Rattle.part.specs.Part.{rowLimits};
 use put::put;
 use put::put_all;
@@ -18,7 +18,7 @@ use term::same;
 use term::word_in;
 
 // The limits of the first count of a row.
-pub fn windows(room: &mut [u8], at: usize, row: term::Row, count: usize, o: term::Window) -> usize
+pub fn windows(room: &mut [u8], at: usize, row: term::Row, count: usize, o: book::Window) -> usize
     ensures { λ r. ⌜ Lists (now (room .entry)) (now (room .exit)) at r (each count (rowLimits o row)) ⌝ }
 {
     let mut a = at;
@@ -96,7 +96,7 @@ pub fn part(
     at: usize,
     s: &[u8],
     n: u8,
-    o: term::Window,
+    o: book::Window,
     k: usize,
     l: cursor::Clause,
 ) -> usize
