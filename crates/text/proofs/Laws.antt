@@ -1,12 +1,9 @@
 -- Laws of the text: what is printed out of the book's bytes is what the meaning's book says.
-use mathlib.Core.Path.{_≡_, refl, sym, ap, ap₂, _∙_}
-use mathlib.Core.List.{List, [], _∷_}
-use Prim.Native.Nat.{ℕ, zero, suc, _≤_}
-use native.Mathlib.Omega.{arith}
-use lib.ListN.{length, getD, take}
-use lib.IntN.{ℤ}
-use Rattle.meaning.specs.Book as meant
-use Rattle.meaning.specs.Book.{placeWindow, variableWindow}
+use mathlib.Core.Path.{_≡_, sym, ap}
+use mathlib.Core.List.{List}
+use Prim.Native.Nat.{ℕ}
+use lib.ListN.{length}
+use Rattle.meaning.specs.Book.{placeWindow}
 use Rattle.cursor.specs.declared.Clause.{Clause}
 use Rattle.cursor.specs.Meaning.{clauseIn}
 use Rattle.book.specs.declared.Header.{Header}
@@ -16,13 +13,12 @@ use Rattle.book.specs.Meaning.{bookIn}
 use Rattle.book.specs.Joined.{Held}
 use Rattle.book.specs.Arities.{relations-are}
 use Rattle.sexp.specs.Bytes.{bytes}
-use Rattle.sexp.specs.Sexp.{Sexp, Sexps, end, _&_, each}
+use Rattle.sexp.specs.Sexp.{Sexps, each}
 use Rattle.put.specs.Room.{Wrote}
-use Rattle.put.specs.Shows.{Lists, Lines}
-use Rattle.put.proofs.Laws.{relist}
+use Rattle.put.specs.Shows.{Lines}
 use Rattle.script.specs.Names.{placeName}
 use Rattle.script.specs.Terms.{limits}
-use Rattle.script.specs.Lines.{inputLine, inputLines, denied, clausePart, clausePartOf}
+use Rattle.script.specs.Lines.{inputLine, inputLines, denied, clausePartOf}
 use Rattle.term.specs.declared.Row.{Row}
 use Rattle.term.specs.declared.Name.{Name}
 use Rattle.term.specs.declared.Name.the-variants.{Flag, Item}
@@ -43,10 +39,6 @@ pub ruleset sorts = (sort-flag, sort-item)
 -- ---- loops over the relations
 
 module _ (s : List ℕ) (h : Header) where
-  -- what is said of relation r and its arity
-  unfoldable pub byArity : (ℕ → ℕ → Sexps) → ℕ → Sexps
-  byArity f r = f r (getD (bookIn s h .arities) r 0)
-
   -- place i of relation r
   unfoldable pub limitsAt : ℕ → ℕ → Sexps
   limitsAt r i = limits (placeWindow (bookIn s h) r i) (placeName r i)
@@ -56,9 +48,6 @@ module _ (s : List ℕ) (h : Header) where
 
 -- ---- loops over the clauses
 
-window-is : {lo hi : ℤ} (o : meant.Window) → o .lo ≡ lo → o .hi ≡ hi → _≡_ {A = meant.Window} o (record { lo = lo; hi = hi })
-window-is o p q = ap₂ (λ (x y : ℤ). record { lo = x; hi = y }) p q
-
 module _ (s : List ℕ) (h : Header) where
   unfoldable pub inputsAt : ℕ → Sexps
   inputsAt k = inputLines k (clauseOf s h k)
@@ -67,25 +56,7 @@ module _ (s : List ℕ) (h : Header) where
   partAt k = clausePartOf (bookIn s h) k (clauseOf s h k)
 
   -- a record that was read is the clause
-  module _ (k : ℕ) (l : Clause) (w : Held s h k l) {d e : List ℕ} {at r : ℕ} where
-    pub inputs-held : Lines d e at r (each (l .variables) (inputLine k)) → Lines d e at r (inputsAt k)
-    unfolding inputsAt inputLines clauseIn
-    inputs-held u = rw (w .is) u
-
-    pub part-held : (o : meant.Window) → o .lo ≡ h .lo → o .hi ≡ h .hi → take (h .relations) (take (h .start) s) ≡ take (h .relations) s →
-        Lists d e at r (clausePart (λ _. o) (take (h .relations) (take (h .start) s)) k (clauseIn (take (h .start) s) l) & end) →
-        Lists d e at r (clausePartOf (bookIn s h) k (clauseOf s h k))
-    unfolding clausePartOf variableWindow bookIn
-    part-held o p q f u = rw (w .is) (relist (ap (λ (x : Sexp). x & end) (same o p q)) (rw f at u))
-      where
-        same : (o : meant.Window) → o .lo ≡ h .lo → o .hi ≡ h .hi →
-            clausePart (λ _. o) (take (h .relations) s) k (clauseIn (take (h .start) s) l)
-            ≡ clausePart (variableWindow (bookIn s h) (clauseIn (take (h .start) s) l)) (bookIn s h .arities) k (clauseIn (take (h .start) s) l)
-        same o p q = ap (λ (x : meant.Window). clausePart (λ _. x) (take (h .relations) s) k (clauseIn (take (h .start) s) l)) (window-is o p q)
-
--- the arities are the front of what stands before the index
-pub arities-front : (n j : ℕ) (s : List ℕ) → n ≤ j → take n (take j s) ≡ take n s
-arities-front zero j s h = refl
-arities-front (suc n) zero s h = absurd (let z : ⊥ = omega arith in z)
-arities-front (suc n) (suc j) [] h = refl
-arities-front (suc n) (suc j) (x ∷ s) h = ap (λ (t : List ℕ). x ∷ t) (arities-front n j s (omega arith))
+  pub inputs-held : (k : ℕ) (l : Clause) → Held s h k l → {d e : List ℕ} {at r : ℕ} →
+      Lines d e at r (each (l .variables) (inputLine k)) → Lines d e at r (inputsAt k)
+  unfolding inputsAt inputLines clauseIn
+  inputs-held k l w u = rw (w .is) u

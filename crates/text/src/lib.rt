@@ -15,7 +15,7 @@ ghost use Rattle.script.specs.Lines as lines;
 ghost use Rattle.script.specs.Text.{text};
 ghost use Rattle.term.specs.Name.{nameOf};
 ghost use Rattle.text.specs.Sort.{sortOf};
-ghost use Rattle.text.specs.Reply.{clauseOf, printDue};
+ghost use Rattle.text.specs.Reply.{printDue};
 use put::put;
 use put::put_all;
 use term::word;
@@ -164,18 +164,6 @@ fn init(room: &mut [u8], at: usize, book: &[u8], h: book::Header) -> usize
     put_all(room, a, b") :init true))\n")
 }
 
-// The part of clause k.
-fn part_of(room: &mut [u8], at: usize, book: &[u8], h: book::Header, k: usize) -> usize
-    requires { ⌜ read (now book) ≡ Good h ⌝ }
-    requires { ⌜ k < h .count ⌝ }
-    ensures { λ e. ⌜ Lists (now (room .entry)) (now (room .exit)) at e (lines.clausePartOf (bookIn (now (book .entry)) h) k (clauseOf (now (book .entry)) h k)) ⌝ }
-{
-    let start = h.start;
-    let l = book::record(book, h, k);
-    let o = book::Window { lo: h.lo, hi: h.hi };
-    part::part(room, at, &book[..start], h.relations, o, k, l)
-}
-
 // `trans`.
 fn trans(room: &mut [u8], at: usize, book: &[u8], h: book::Header) -> usize
     requires { ⌜ read (now book) ≡ Good h ⌝ }
@@ -184,7 +172,7 @@ fn trans(room: &mut [u8], at: usize, book: &[u8], h: book::Header) -> usize
     let mut a = put_all(room, at, b"(define-fun trans () Bool (! (or false false");
     let n = h.count;
     for k in 0..n {
-        a = part_of(room, a, book, h, k);
+        a = part::part(room, a, book, h, k);
     }
     put_all(room, a, b") :trans true))\n")
 }

@@ -8,7 +8,7 @@ use Rattle.sexp.specs.Sexp.{each}
 use Rattle.put.specs.Shows.{Lists}
 use Rattle.put.proofs.Laws.{relist, wrote-length, each-none, each-more, each-all}
 use Rattle.script.specs.Lines as lines
-use Rattle.text.proofs.Laws.{byArity}
+use Rattle.part.proofs.Laws.{byArity}
 use borrow.Author.Needs.{needs}
 use Rattle.text.proofs.place_limits.Statement.{statement}
 use Rattle.text.proofs.place_limits.Tie as tie

@@ -6,7 +6,7 @@ use Rattle.sexp.specs.Sexp.{each}
 use Rattle.put.specs.Shows.{Lines}
 use Rattle.put.proofs.Laws.{reline, wrote-length, lines-none, lines-more, lines-all}
 use Rattle.script.specs.Lines as lines
-use Rattle.text.proofs.Laws.{byArity}
+use Rattle.part.proofs.Laws.{byArity}
 use borrow.Author.Needs.{needs}
 use Rattle.text.proofs.relations.Statement.{statement}
 use Rattle.text.proofs.relations.Tie as tie
