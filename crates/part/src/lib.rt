@@ -1,15 +1,17 @@
 // Printing the part of a clause in `trans`.
 ghost use mathlib.Core.Path.{_≡_};
 ghost use mathlib.Core.Logic.{_⊎_};
-ghost use Prim.Native.Nat.{_+_, _≤_, _<_};
-ghost use lib.ListN.{length, getD, take};
-ghost use Rattle.sexp.specs.Sexp.{end, _&_, each, over};
+ghost use Prim.Native.Nat.{_<_};
+ghost use lib.ListN.{getD};
+ghost use Rattle.meaning.specs.Book.{none-such};
+ghost use Rattle.sexp.specs.Sexp.{each, over};
 ghost use Rattle.put.specs.Shows.{Lists};
-ghost use Rattle.cursor.specs.Sound.{Sound};
-ghost use Rattle.cursor.specs.Meaning.{atomIn, bodyIn, clauseIn};
+ghost use Rattle.book.specs.declared.Reading.the-variants.{Good};
+ghost use Rattle.book.specs.Read.{read};
+ghost use Rattle.book.specs.Meaning.{bookIn};
+ghost use Rattle.book.specs.Windows.{windowsOf};
 ghost use Rattle.script.specs.Lines as lines;
-ghost use Rattle.term.specs.Name.{windowOf};
-ghost use Rattle.part.specs.Part.{rowLimits};
+ghost use Rattle.part.specs.Part.{Stands, atomOf, bodyOf};
 use put::put;
 use put::put_all;
 use term::constraint;
@@ -17,42 +19,62 @@ use term::limits;
 use term::same;
 use term::word_in;
 
-// The limits of the first count of a row.
-pub fn windows(room: &mut [u8], at: usize, row: term::Row, count: usize, o: term::Window) -> usize
-    ensures { λ r. ⌜ Lists (now (room .entry)) (now (room .exit)) at r (each count (rowLimits o row)) ⌝ }
+// The limits of the v variables of clause k.
+fn windows(room: &mut [u8], at: usize, book: &[u8], h: book::Header, k: usize, v: usize) -> usize
+    ensures { λ r. ⌜ Lists (now (room .entry)) (now (room .exit)) at r (each v (lines.inputLimits (windowsOf (now (book .entry)) h k) k)) ⌝ }
 {
     let mut a = at;
-    for i in 0..count {
-        a = limits(room, a, term::Name::Item(row, i), o);
+    for i in 0..v {
+        let o = book::variable_window(book, h, k, i);
+        a = limits(room, a, term::Name::Item(term::Row::Inputs(k), i), o);
     }
     a
 }
 
 // Relation r with the arguments after the place p, before the step or after it.
-fn atom(room: &mut [u8], at: usize, s: &[u8], k: usize, r: usize, p: usize, after: bool) -> usize
-    requires { ⌜ r < length (now s) ⌝ }
-    requires { ⌜ p + 1 + getD (now s) r 0 ≤ length (now s) ⌝ }
-    ensures { λ e. ⌜ Lists (now (room .entry)) (now (room .exit)) at e (lines.atomItems after k (atomIn (now (s .entry)) r p)) ⌝ }
+fn atom(
+    room: &mut [u8],
+    at: usize,
+    book: &[u8],
+    h: book::Header,
+    k: usize,
+    r: usize,
+    p: usize,
+    after: bool,
+) -> usize
+    requires { ⌜ read (now book) ≡ Good h ⌝ }
+    requires { ⌜ Stands (now book) h r p ⌝ }
+    ensures { λ e. ⌜ Lists (now (room .entry)) (now (room .exit)) at e (lines.atomItems after k (atomOf (now (book .entry)) h r p)) ⌝ }
 {
     let mut a = put(room, at, b' ');
     a = word_in(room, a, term::Name::Flag(r), after);
-    for i in 0..(s[r] as usize) {
+    let n = book::arity_of(book, h, r);
+    for i in 0..n {
         let m = term::Name::Item(term::Row::Places(r), i);
-        let n = term::Name::Item(term::Row::Inputs(k), s[p + 1 + i] as usize);
-        a = same(room, a, m, after, n);
+        let x = term::Name::Item(term::Row::Inputs(k), book[p + 1 + i] as usize);
+        a = same(room, a, m, after, x);
     }
     a
 }
 
 // The body, which is relation b with the arguments after the place p, or none.
-fn body(room: &mut [u8], at: usize, s: &[u8], k: usize, b: u8, p: usize) -> usize
-    requires { ⌜ (b ≡ 255) ⊎ ((b < length (now s)) × (p + 1 + getD (now s) b 0 ≤ length (now s))) ⌝ }
-    ensures { λ e. ⌜ Lists (now (room .entry)) (now (room .exit)) at e (lines.bodyItems k (bodyIn (now (s .entry)) b p)) ⌝ }
+fn body(
+    room: &mut [u8],
+    at: usize,
+    book: &[u8],
+    h: book::Header,
+    k: usize,
+    b: u8,
+    p: usize,
+) -> usize
+    requires { ⌜ read (now book) ≡ Good h ⌝ }
+    requires { ⌜ (b ≡ 255) ⊎ Stands (now book) h b p ⌝ }
+    ensures { λ e. ⌜ Lists (now (room .entry)) (now (room .exit)) at e (lines.bodyItems k (bodyOf (now (book .entry)) h b p)) ⌝ }
 {
     if b == 255 {
         return at;
     }
-    atom(room, at, s, k, b as usize, p, false)
+    atom(room, at, book, h, k, b as usize, p, false)
 }
 
 // Relation r keeps its flag and its m places.
@@ -78,40 +100,34 @@ fn frame_but(room: &mut [u8], at: usize, h: usize, r: usize, m: usize) -> usize
     frame(room, at, r, m)
 }
 
-// Every relation but h keeps its flag and places.
-fn frames(room: &mut [u8], at: usize, s: &[u8], n: usize, h: usize) -> usize
-    requires { ⌜ n ≤ length (now s) ⌝ }
-    ensures { λ e. ⌜ Lists (now (room .entry)) (now (room .exit)) at e (over 0 (take n (now (s .entry))) (lines.frameBut h)) ⌝ }
+// Every relation but f keeps its flag and places.
+fn frames(room: &mut [u8], at: usize, book: &[u8], h: book::Header, f: usize) -> usize
+    requires { ⌜ read (now book) ≡ Good h ⌝ }
+    ensures { λ e. ⌜ Lists (now (room .entry)) (now (room .exit)) at e (over 0 (bookIn (now (book .entry)) h .arities) (lines.frameBut f)) ⌝ }
 {
     let mut a = at;
+    let n = h.relations as usize;
     for r in 0..n {
-        a = frame_but(room, a, h, r, s[r] as usize);
+        a = frame_but(room, a, f, r, book::arity_of(book, h, r));
     }
     a
 }
 
-// The part of clause k, whose record's parts stand where l says; n is the number of relations.
-pub fn part(
-    room: &mut [u8],
-    at: usize,
-    s: &[u8],
-    n: u8,
-    o: term::Window,
-    k: usize,
-    l: cursor::Clause,
-) -> usize
-    requires { ⌜ n ≤ length (now s) ⌝ }
-    requires { ⌜ Sound (now s) n l ⌝ }
-    ensures { λ e. ⌜ Lists (now (room .entry)) (now (room .exit)) at e (lines.clausePart (λ _. windowOf o) (take n (now (s .entry))) k (clauseIn (now (s .entry)) l) & end) ⌝ }
+// The part of clause k.
+pub fn part(room: &mut [u8], at: usize, book: &[u8], h: book::Header, k: usize) -> usize
+    requires { ⌜ read (now book) ≡ Good h ⌝ }
+    requires { ⌜ k < h .count ⌝ }
+    ensures { λ e. ⌜ Lists (now (room .entry)) (now (room .exit)) at e (lines.clausePartOf (bookIn (now (book .entry)) h) k (getD (bookIn (now (book .entry)) h .clauses) k none-such)) ⌝ }
 {
+    let l = book::record(book, h, k);
     let v = l.variables;
     let rule = l.rule;
     let a = put_all(room, at, b" (and true");
-    let a = windows(room, a, term::Row::Inputs(k), v as usize, o);
+    let a = windows(room, a, book, h, k, v as usize);
     let a = put(room, a, b' ');
-    let a = constraint(room, a, s, k, v, rule);
-    let a = body(room, a, s, k, l.body, l.body_at);
-    let a = atom(room, a, s, k, l.head as usize, l.head_at, true);
-    let a = frames(room, a, s, n as usize, l.head as usize);
+    let a = constraint(room, a, book, k, v, rule);
+    let a = body(room, a, book, h, k, l.body, l.body_at);
+    let a = atom(room, a, book, h, k, l.head as usize, l.head_at, true);
+    let a = frames(room, a, book, h, l.head as usize);
     put(room, a, b')')
 }

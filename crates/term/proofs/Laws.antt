@@ -21,11 +21,14 @@ use Rattle.sexp.specs.Sexp.{Sexps, onto, each, over}
 use Rattle.sexp.specs.Split.{each-same}
 use Rattle.put.specs.Room.{Wrote}
 use Rattle.put.specs.Digits.{digits}
+use Rattle.meaning.specs.Book as meant
+use Rattle.book.specs.declared.Window.{Window}
+use Rattle.book.specs.Windows.{Windowed, windowOf, windowed-is}
 use Rattle.put.specs.Number.{num}
 use Rattle.put.specs.Shows.{Shows, Lists}
 use Rattle.put.proofs.Laws.{relist, reshow}
 use Rattle.script.specs.Names.{flagName, placeName, inputName, next, inState}
-use Rattle.script.specs.Terms.{product, sum, compared}
+use Rattle.script.specs.Terms.{limits, product, sum, compared}
 use Rattle.term.specs.declared.Row.{Row}
 use Rattle.term.specs.declared.Row.the-variants.{Places, Inputs}
 use Rattle.term.specs.declared.Name as Name'
@@ -59,6 +62,11 @@ module _ {d e : List ℕ} {at r : ℕ} where
   state-before after n h u = rw h u
 
 pub ruleset names = (item-place, item-input, name-item)
+
+-- the limits by a window that the code asked for
+pub limits-asked : {m : meant.Window} {w : Window} (n : List ℕ) {d e : List ℕ} {at r : ℕ} → Windowed m w →
+    Lists d e at r (limits (windowOf w) n) → Lists d e at r (limits m n)
+limits-asked n x u = relist (ap (λ (o : meant.Window). limits o n) (windowed-is x)) u
 
 -- ---- a sum
 

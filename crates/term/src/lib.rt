@@ -10,9 +10,10 @@ ghost use Rattle.put.specs.Shows.{Shows, Lists};
 ghost use Rattle.cursor.specs.Tree.{sumOf, treeAt};
 ghost use Rattle.cursor.specs.Sound.{CompareThere, RemainsThere, IsTree};
 ghost use Rattle.cursor.specs.Meaning.{treeIn};
+ghost use Rattle.book.specs.Windows.{windowOf};
 ghost use Rattle.script.specs.Names.{inState};
 ghost use Rattle.script.specs.Terms as term;
-ghost use Rattle.term.specs.Name.{itemName, nameOf, windowOf};
+ghost use Rattle.term.specs.Name.{itemName, nameOf};
 ghost use Rattle.term.specs.Drawn.{zeroOf, comparedOf, remainsOf, Drawn, DrawnTwo};
 use cursor::Comparison;
 use cursor::Cursor;
@@ -35,12 +36,6 @@ pub enum Row {
 pub enum Name {
     Flag(usize),
     Item(Row, usize),
-}
-
-// The least and the largest value.
-pub struct Window {
-    pub lo: i32,
-    pub hi: i32,
 }
 
 // A letter and two numbers.
@@ -88,7 +83,7 @@ pub fn word_in(room: &mut [u8], at: usize, n: Name, after: bool) -> usize
 }
 
 // The two limits of a name.
-pub fn limits(room: &mut [u8], at: usize, n: Name, o: Window) -> usize
+pub fn limits(room: &mut [u8], at: usize, n: Name, o: book::Window) -> usize
     ensures { λ r. ⌜ Lists (now (room .entry)) (now (room .exit)) at r (term.limits (windowOf o) (nameOf n)) ⌝ }
 {
     let a = put_all(room, at, b" (<= ");

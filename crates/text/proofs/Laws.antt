@@ -1,12 +1,9 @@
 -- Laws of the text: what is printed out of the book's bytes is what the meaning's book says.
-use mathlib.Core.Path.{_≡_, refl, sym, ap, ap₂, _∙_}
-use mathlib.Core.List.{List, [], _∷_}
-use Prim.Native.Nat.{ℕ, zero, suc, _≤_}
-use native.Mathlib.Omega.{arith}
-use lib.ListN.{length, getD, take, length-take}
-use lib.IntN.{ℤ}
-use Rattle.meaning.specs.Book as meant
-use Rattle.meaning.specs.Book.{placeWindow, variableWindow}
+use mathlib.Core.Path.{_≡_, sym, ap}
+use mathlib.Core.List.{List}
+use Prim.Native.Nat.{ℕ}
+use lib.ListN.{length}
+use Rattle.meaning.specs.Book.{placeWindow}
 use Rattle.cursor.specs.declared.Clause.{Clause}
 use Rattle.cursor.specs.Meaning.{clauseIn}
 use Rattle.book.specs.declared.Header.{Header}
@@ -14,14 +11,14 @@ use Rattle.book.specs.declared.Reading.the-variants as readings
 use Rattle.book.specs.Read.{read}
 use Rattle.book.specs.Meaning.{bookIn}
 use Rattle.book.specs.Joined.{Held}
-use Rattle.book.specs.Trailer.{read-trailed}
+use Rattle.book.specs.Arities.{relations-are}
 use Rattle.sexp.specs.Bytes.{bytes}
-use Rattle.sexp.specs.Sexp.{Sexp, Sexps, end, _&_, each, over}
-use Rattle.sexp.specs.Split.{over-front}
+use Rattle.sexp.specs.Sexp.{Sexps, each}
 use Rattle.put.specs.Room.{Wrote}
-use Rattle.put.specs.Shows.{Lists, Lines}
-use Rattle.put.proofs.Laws.{relist, reline}
-use Rattle.script.specs.Lines.{relationLines, inputLine, inputLines, denied, placeLimits, initLine, clausePart, clausePartOf}
+use Rattle.put.specs.Shows.{Lines}
+use Rattle.script.specs.Names.{placeName}
+use Rattle.script.specs.Terms.{limits}
+use Rattle.script.specs.Lines.{inputLine, inputLines, denied, clausePartOf}
 use Rattle.term.specs.declared.Row.{Row}
 use Rattle.term.specs.declared.Name.{Name}
 use Rattle.term.specs.declared.Name.the-variants.{Flag, Item}
@@ -41,27 +38,15 @@ pub ruleset sorts = (sort-flag, sort-item)
 
 -- ---- loops over the relations
 
-unfoldable pub relationAt : List ℕ → ℕ → Sexps
-relationAt s r = relationLines r (getD s r 0)
+module _ (s : List ℕ) (h : Header) where
+  -- place i of relation r
+  unfoldable pub limitsAt : ℕ → ℕ → Sexps
+  limitsAt r i = limits (placeWindow (bookIn s h) r i) (placeName r i)
 
-pub relations-are : (s : List ℕ) (n : ℕ) → n ≤ length s → each n (relationAt s) ≡ over 0 (take n s) relationLines
-unfolding relationAt
-relations-are s n l = over-front 0 s n relationLines l
-
-unfoldable pub limitsAt : meant.Window → List ℕ → ℕ → Sexps
-limitsAt o s r = placeLimits (λ _ _. o) r (getD s r 0)
-
-pub limits-are : (o : meant.Window) (s : List ℕ) (n : ℕ) → n ≤ length s → each n (limitsAt o s) ≡ over 0 (take n s) (placeLimits (λ _ _. o))
-unfolding limitsAt
-limits-are o s n l = over-front 0 s n (placeLimits (λ _ _. o)) l
-
-pub denied-are : (s : List ℕ) (n : ℕ) → n ≤ length s → each n denied ≡ each (length (take n s)) denied
-denied-are s n h = ap (λ (m : ℕ). each m denied) (sym (length-take n s ∙ omega arith))
+  pub denied-are : read s ≡ readings.Good h → each (h .relations) denied ≡ each (length (bookIn s h .arities)) denied
+  denied-are good = ap (λ (m : ℕ). each m denied) (sym (relations-are s h good))
 
 -- ---- loops over the clauses
-
-window-is : {lo hi : ℤ} (o : meant.Window) → o .lo ≡ lo → o .hi ≡ hi → _≡_ {A = meant.Window} o (record { lo = lo; hi = hi })
-window-is o p q = ap₂ (λ (x y : ℤ). record { lo = x; hi = y }) p q
 
 module _ (s : List ℕ) (h : Header) where
   unfoldable pub inputsAt : ℕ → Sexps
@@ -71,35 +56,7 @@ module _ (s : List ℕ) (h : Header) where
   partAt k = clausePartOf (bookIn s h) k (clauseOf s h k)
 
   -- a record that was read is the clause
-  module _ (k : ℕ) (l : Clause) (w : Held s h k l) {d e : List ℕ} {at r : ℕ} where
-    pub inputs-held : Lines d e at r (each (l .variables) (inputLine k)) → Lines d e at r (inputsAt k)
-    unfolding inputsAt inputLines clauseIn
-    inputs-held u = rw (w .is) u
-
-    pub part-held : (o : meant.Window) → o .lo ≡ h .lo → o .hi ≡ h .hi → take (h .relations) (take (h .start) s) ≡ take (h .relations) s →
-        Lists d e at r (clausePart (λ _. o) (take (h .relations) (take (h .start) s)) k (clauseIn (take (h .start) s) l) & end) →
-        Lists d e at r (clausePartOf (bookIn s h) k (clauseOf s h k))
-    unfolding clausePartOf variableWindow bookIn
-    part-held o p q f u = rw (w .is) (relist (ap (λ (x : Sexp). x & end) (same o p q)) (rw f at u))
-      where
-        same : (o : meant.Window) → o .lo ≡ h .lo → o .hi ≡ h .hi →
-            clausePart (λ _. o) (take (h .relations) s) k (clauseIn (take (h .start) s) l)
-            ≡ clausePart (variableWindow (bookIn s h) (clauseIn (take (h .start) s) l)) (bookIn s h .arities) k (clauseIn (take (h .start) s) l)
-        same o p q = ap (λ (x : meant.Window). clausePart (λ _. x) (take (h .relations) s) k (clauseIn (take (h .start) s) l)) (window-is o p q)
-
--- every place has the book's window
-pub init-held : (s : List ℕ) (h : Header) (o : meant.Window) → o .lo ≡ h .lo → o .hi ≡ h .hi → {d e : List ℕ} {at r : ℕ} →
-    Lines d e at r (initLine (λ _ _. o) (take (h .relations) s) & end) → Lines d e at r (initLine (placeWindow (bookIn s h)) (bookIn s h .arities) & end)
-unfolding placeWindow bookIn
-init-held s h o p q u = reline (ap (λ (x : meant.Window). initLine (λ _ _. x) (take (h .relations) s) & end) (window-is o p q)) u
-
--- the arities are the front of what stands before the index
-pub arities-front : (n j : ℕ) (s : List ℕ) → n ≤ j → take n (take j s) ≡ take n s
-arities-front zero j s h = refl
-arities-front (suc n) zero s h = absurd (let z : ⊥ = omega arith in z)
-arities-front (suc n) (suc j) [] h = refl
-arities-front (suc n) (suc j) (x ∷ s) h = ap (λ (t : List ℕ). x ∷ t) (arities-front n j s (omega arith))
-
--- the relations lie within the book
-pub relations-within : (s : List ℕ) (h : Header) → read s ≡ readings.Good h → h .relations ≤ length s
-relations-within s h e = let w = read-trailed s h e .kept in omega arith
+  pub inputs-held : (k : ℕ) (l : Clause) → Held s h k l → {d e : List ℕ} {at r : ℕ} →
+      Lines d e at r (each (l .variables) (inputLine k)) → Lines d e at r (inputsAt k)
+  unfolding inputsAt inputLines clauseIn
+  inputs-held k l w u = rw (w .is) u

@@ -1,9 +1,8 @@
 // The printed text of a book, into a lent room.
 ghost use mathlib.Core.Path.{_≡_};
-ghost use Prim.Native.Nat.{_≤_, _<_};
-ghost use lib.ListN.{length, take};
+ghost use Prim.Native.Nat.{_<_};
 ghost use Rattle.reply.specs.Room.{Leaves};
-ghost use Rattle.meaning.specs.Book.{none-such};
+ghost use Rattle.meaning.specs.Book.{none-such, placeWindow};
 ghost use Rattle.book.specs.declared.Reading.the-variants.{Good};
 ghost use Rattle.book.specs.Read.{read};
 ghost use Rattle.book.specs.Meaning.{bookIn};
@@ -14,9 +13,9 @@ ghost use Rattle.put.specs.Shows.{Lists, Lines};
 ghost use Rattle.script.specs.Names.{inState};
 ghost use Rattle.script.specs.Lines as lines;
 ghost use Rattle.script.specs.Text.{text};
-ghost use Rattle.term.specs.Name.{nameOf, windowOf};
+ghost use Rattle.term.specs.Name.{nameOf};
 ghost use Rattle.text.specs.Sort.{sortOf};
-ghost use Rattle.text.specs.Reply.{clauseOf, printDue};
+ghost use Rattle.text.specs.Reply.{printDue};
 use put::put;
 use put::put_all;
 use term::word;
@@ -78,14 +77,15 @@ fn relation(room: &mut [u8], at: usize, r: usize, m: usize) -> usize
     a
 }
 
-// The lines of n relations, whose arities stand at the front of the book.
-fn relations(room: &mut [u8], at: usize, book: &[u8], n: usize) -> usize
-    requires { ⌜ n ≤ length (now book) ⌝ }
-    ensures { λ e. ⌜ Lines (now (room .entry)) (now (room .exit)) at e (over 0 (take n (now (book .entry))) lines.relationLines) ⌝ }
+// The lines of the relations.
+fn relations(room: &mut [u8], at: usize, book: &[u8], h: book::Header) -> usize
+    requires { ⌜ read (now book) ≡ Good h ⌝ }
+    ensures { λ e. ⌜ Lines (now (room .entry)) (now (room .exit)) at e (over 0 (bookIn (now (book .entry)) h .arities) lines.relationLines) ⌝ }
 {
     let mut a = at;
+    let n = h.relations as usize;
     for r in 0..n {
-        a = relation(room, a, r, book[r] as usize);
+        a = relation(room, a, r, book::arity_of(book, h, r));
     }
     a
 }
@@ -128,39 +128,40 @@ fn denied(room: &mut [u8], at: usize, n: usize) -> usize
     a
 }
 
-// The limits of the places of n relations.
-fn place_limits(room: &mut [u8], at: usize, book: &[u8], n: usize, o: term::Window) -> usize
-    requires { ⌜ n ≤ length (now book) ⌝ }
-    ensures { λ e. ⌜ Lists (now (room .entry)) (now (room .exit)) at e (over 0 (take n (now (book .entry))) (lines.placeLimits (λ _ _. windowOf o))) ⌝ }
+// The limits of the m places of relation r.
+fn limits_of(room: &mut [u8], at: usize, book: &[u8], h: book::Header, r: usize, m: usize) -> usize
+    ensures { λ e. ⌜ Lists (now (room .entry)) (now (room .exit)) at e (lines.placeLimits (placeWindow (bookIn (now (book .entry)) h)) r m) ⌝ }
 {
     let mut a = at;
+    for i in 0..m {
+        let o = book::place_window(book, h, r, i);
+        a = term::limits(room, a, term::Name::Item(term::Row::Places(r), i), o);
+    }
+    a
+}
+
+// The limits of the places of the relations.
+fn place_limits(room: &mut [u8], at: usize, book: &[u8], h: book::Header) -> usize
+    requires { ⌜ read (now book) ≡ Good h ⌝ }
+    ensures { λ e. ⌜ Lists (now (room .entry)) (now (room .exit)) at e (over 0 (bookIn (now (book .entry)) h .arities) (lines.placeLimits (placeWindow (bookIn (now (book .entry)) h)))) ⌝ }
+{
+    let mut a = at;
+    let n = h.relations as usize;
     for r in 0..n {
-        a = part::windows(room, a, term::Row::Places(r), book[r] as usize, o);
+        a = limits_of(room, a, book, h, r, book::arity_of(book, h, r));
     }
     a
 }
 
 // `init`.
-fn init(room: &mut [u8], at: usize, book: &[u8], n: usize, o: term::Window) -> usize
-    requires { ⌜ n ≤ length (now book) ⌝ }
-    ensures { λ e. ⌜ Lines (now (room .entry)) (now (room .exit)) at e (lines.initLine (λ _ _. windowOf o) (take n (now (book .entry))) & end) ⌝ }
+fn init(room: &mut [u8], at: usize, book: &[u8], h: book::Header) -> usize
+    requires { ⌜ read (now book) ≡ Good h ⌝ }
+    ensures { λ e. ⌜ Lines (now (room .entry)) (now (room .exit)) at e (lines.initLine (placeWindow (bookIn (now (book .entry)) h)) (bookIn (now (book .entry)) h .arities) & end) ⌝ }
 {
     let a = put_all(room, at, b"(define-fun init () Bool (! (and true");
-    let a = denied(room, a, n);
-    let a = place_limits(room, a, book, n, o);
+    let a = denied(room, a, h.relations as usize);
+    let a = place_limits(room, a, book, h);
     put_all(room, a, b") :init true))\n")
-}
-
-// The part of clause k.
-fn part_of(room: &mut [u8], at: usize, book: &[u8], h: book::Header, k: usize) -> usize
-    requires { ⌜ read (now book) ≡ Good h ⌝ }
-    requires { ⌜ k < h .count ⌝ }
-    ensures { λ e. ⌜ Lists (now (room .entry)) (now (room .exit)) at e (lines.clausePartOf (bookIn (now (book .entry)) h) k (clauseOf (now (book .entry)) h k)) ⌝ }
-{
-    let start = h.start;
-    let l = book::record(book, h, k);
-    let o = term::Window { lo: h.lo, hi: h.hi };
-    part::part(room, at, &book[..start], h.relations, o, k, l)
 }
 
 // `trans`.
@@ -171,7 +172,7 @@ fn trans(room: &mut [u8], at: usize, book: &[u8], h: book::Header) -> usize
     let mut a = put_all(room, at, b"(define-fun trans () Bool (! (or false false");
     let n = h.count;
     for k in 0..n {
-        a = part_of(room, a, book, h, k);
+        a = part::part(room, a, book, h, k);
     }
     put_all(room, a, b") :trans true))\n")
 }
@@ -190,11 +191,9 @@ fn write(room: &mut [u8], book: &[u8], h: book::Header) -> usize
     requires { ⌜ read (now book) ≡ Good h ⌝ }
     ensures { λ e. ⌜ Wrote (now (room .entry)) (now (room .exit)) 0 e (text (bookIn (now (book .entry)) h)) ⌝ }
 {
-    let n = h.relations as usize;
-    let o = term::Window { lo: h.lo, hi: h.hi };
-    let a = relations(room, 0, book, n);
+    let a = relations(room, 0, book, h);
     let a = all_inputs(room, a, book, h);
-    let a = init(room, a, book, n, o);
+    let a = init(room, a, book, h);
     let a = trans(room, a, book, h);
     prop(room, a, h.query as usize)
 }

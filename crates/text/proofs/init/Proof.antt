@@ -12,7 +12,7 @@ returns c =
     let c1 = c .before .before in
     let c2 = c1 .before .before .before .before .before in
     let c3 = c2 .before .before .before .before in
-    let c4 = c3 .before .before .before .before in
+    let c4 = c3 .before .before .before .before .before in
     let s = c4 .before .before .before .before .before in
     record { text = join (c4 .put-all .ensures) (more _ _ (relist (denied-are _ _ (s .pre)) (c3 .denied .ensures)) (all (c2 .place-limits .ensures) (c1 .put-all2 .ensures))) }
 
@@ -22,6 +22,7 @@ init-spec =
     (tie.spec
     (λ c. search needs)
     (λ c κs. search needs)
+    (λ c. search needs)
     (λ c κs. search needs)
     (λ c κs. search needs)
     (λ c. search needs)

@@ -21,7 +21,7 @@ loop-holds c = (omega arith, each-after _ (c .before .before .put-all .ensures))
 
 loop-again : tie.Need-loop-again Inv-loop μ-loop
 unfolding partAt
-loop-again c = (omega arith, each-more _ _ (c .before .before .before .before .before .loop .inv .1) (c .before .before .part-of .ensures))
+loop-again c = (omega arith, each-more _ _ (c .before .before .before .before .before .loop .inv .1) (c .before .before .part .ensures))
 
 returns : tie.Need-returns Inv-loop μ-loop
 unfolding onto linesOnto lines.transLine partAt
