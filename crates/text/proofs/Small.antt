@@ -6,7 +6,7 @@ use mathlib.Core.Option.{none, some}
 use Prim.Native.Nat.{ℕ, suc, _+_, _-_, _*_, _≤_, _<_}
 use native.Mathlib.Nat.{le-trans}
 use native.Mathlib.Omega.{arith}
-use lib.IntN.{natAbs}
+use lib.IntN.{ℤ, natAbs}
 use lib.ListN.{length, getD, take, drop, length-take, List·getD-eq-default}
 use lib.Pow.{pow-pos}
 use lib.Seq.{getD-take, getD-drop}
@@ -16,7 +16,6 @@ use mir.Facts.{sfits-toZ}
 use Rattle.whole.specs.Whole.{lt-or-le, fits-small}
 use Rattle.whole.specs.Bytes.{u16At, u32At, i16At, i32At}
 use Rattle.meaning.specs.Book as meant
-use Rattle.meaning.specs.Book.{placeWindow, variableWindow}
 use Rattle.meaning.specs.Constraint.{Constraint}
 use Rattle.cursor.specs.declared.Cursor.{Cursor}
 use Rattle.cursor.specs.declared.Clause.{Clause}
@@ -30,6 +29,8 @@ use Rattle.book.specs.Read.{read}
 use Rattle.book.specs.Meaning.{bookIn}
 use Rattle.book.specs.Joined.{record-read, held, count-is}
 use Rattle.book.specs.Trailer.{read-trailed}
+use Rattle.book.specs.Arities.{arities-are, relations-are}
+use Rattle.book.specs.Windows.{places-keep, variables-keep}
 use Rattle.put.specs.Room.{top}
 use Rattle.script.specs.Text.{text}
 use Rattle.script.specs.Size.{Short, SmallWindow, SmallSum, SmallAtom, SmallBody, SmallClause, SmallBook, Bound, truth-size, at-most-size, equal-size, remainder-size, not-size, and-size, or-size, text-size}
@@ -139,17 +140,18 @@ module _ (s : List ℕ) (h : Header) (bytes : Bytes s) (good : read s ≡ Good h
       rw (w .is) (clause-small (take (h .start) s) (bytes-take s (h .start) bytes) (h .relations) (r .clause) (t .kept .few) (w .sound))
 
   book-small : SmallBook (bookIn s h)
-  unfolding bookIn placeWindow variableWindow
+  unfolding bookIn
   book-small =
       let t = read-trailed s h good in
       let k = t .kept in
+      let small : ℤ → Type 0 = λ z. Short (natAbs z) in
       record {
-        relations = omega (arith, length-take (h .relations) s);
-        arities = λ r. omega (arith, bytes-take s (h .relations) bytes r);
+        relations = omega (arith, relations-are s h good);
+        arities = λ r. rw (arities-are s h good) (omega (arith, bytes-take s (h .relations) bytes r));
         clauses = rw (count-is s h good) (k .count);
         each = λ i l. each-small i (rw (count-is s h good) at l);
-        places = λ r i. window-small;
-        variables = λ c i. window-small;
+        places = λ r i. let w = places-keep small s h (window-small .lo) (window-small .hi) r i in record { lo = w .0; hi = w .1 };
+        variables = λ c i. let w = variables-keep small s h (window-small .lo) (window-small .hi) c i in record { lo = w .0; hi = w .1 };
         query = omega arith;
       }
 
