@@ -1,4 +1,6 @@
 // What a call on a list asks first: that the goal fits the book, and that the list has 1 to 1,000,000 numbers.
+#![tactic(auto)]
+
 ghost use Rattle.std.specs.Prelude.{◌≡◌};
 ghost use Rattle.lists.specs.Derivation.{judge_goal, judge_length};
 ghost use Rattle.book.specs.Read.{read};

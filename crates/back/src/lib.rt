@@ -1,5 +1,7 @@
 // Trace to derivation: how many numbers the derivation has, and its numbers written from the last to the first.
 // A step's start can't be found from behind: the start of every 512th step is kept, and a block's starts are found again when its turn comes.
+#![tactic(auto)]
+
 ghost use Rattle.std.specs.Prelude.{◌≡◌, ◌++◌, ℕ, ◌+◌, ◌*◌, ◌<◌, ◌≤◌, length, get_or, take, drop};
 ghost use Rattle.meaning.specs.State.{flags};
 ghost use Rattle.lists.specs.Convert.{as_derivation};

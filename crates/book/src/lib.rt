@@ -1,4 +1,6 @@
 // The clause book: its trailer, arities, records and index, read to the byte.
+#![tactic(auto)]
+
 ghost use Rattle.std.specs.Prelude.{◌≡◌, ◌+◌, ◌*◌, ◌≤◌, ◌<◌, length, get_or};
 ghost use Rattle.book.specs.Read.{top_arity, arity_at, arities_at, record_at, clauses_at, headed, sized, trailer, read, entry_at};
 ghost use Rattle.book.specs.Span.{absent, span_at, span_of};

@@ -3,6 +3,7 @@
 // are handed out, each as its length and a checksum of its bytes. For an accepted book these are
 // the parts of all its clauses and of the absent one after the last, for a refused book that of
 // clause 0, and for both that of a clause number far off. What must be printed is worked out by tests/book_cases.py.
+#![tactic(auto)]
 
 // Twice this number is 0 if it wraps.
 const FAR: usize = 9223372036854775808;

@@ -1,4 +1,6 @@
 // What the programs read from standard input and write to standard output.
+#![tactic(auto)]
+
 ghost use Rattle.std.specs.Prelude.{◌+◌, ◌*◌, ◌≤◌, ◌<◌, ◌≡◌, length, drop};
 ghost use Rattle.console.specs.Console.{sum_on, sum_from, IsLength, Ends, again};
 

@@ -1,4 +1,6 @@
 // The two conversions: a trace becomes a derivation, and a derivation a trace, in room that the caller lends.
+#![tactic(auto)]
+
 ghost use Rattle.std.specs.Prelude.{◌<◌};
 ghost use Rattle.meaning.specs.State as state;
 ghost use Rattle.lists.specs.Trace.{size as stateSize};

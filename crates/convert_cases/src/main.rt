@@ -6,6 +6,8 @@
 // many values it has, and these; how many pieces the list has, and these. A piece is how many numbers are
 // written of it, how many it has, and those written: it goes on with the written ones over again. What
 // must be printed is worked out by tests/convert_cases.py.
+#![tactic(auto)]
+
 ghost use Rattle.std.specs.Prelude.{◌≤◌, ◌<◌, length};
 
 fn print_outcome(answer: reply::Answer) {

@@ -1,4 +1,6 @@
 // The reading of clause records: a cursor by value, whose steps hand back what was read with the moved cursor, or the refusal.
+#![tactic(auto)]
+
 ghost use Rattle.std.specs.Prelude.{◌≡◌, ◌≤◌, length};
 ghost use Rattle.cursor.specs.Steps.{byte_at, below_at, relation_at, variable_at, skip_at, number_at, kind_at, sum_at, remains_at, node_at};
 ghost use Rattle.cursor.specs.Walk.{constraint_at};

@@ -1,4 +1,6 @@
 // The derivation check: whether a list of numbers is a derivation of a goal in a clause book.
+#![tactic(auto)]
+
 ghost use Rattle.std.specs.Prelude.{◌≡◌, ◌+◌, ◌<◌, ◌≤◌, length, get_or, drop};
 ghost use Rattle.std.proofs.Math.Option.{some};
 ghost use Rattle.meaning.specs.Book.{body};

@@ -1,4 +1,6 @@
 // Derivation to trace: the trace's numbers written in order.
+#![tactic(auto)]
+
 ghost use Rattle.std.specs.Prelude.{◌≡◌, false, map, ◌++◌, ◌+◌, ◌<◌, ◌≤◌, length, take, drop, replicate};
 ghost use Rattle.meaning.specs.Book.{place_window};
 ghost use Rattle.meaning.specs.State as state;

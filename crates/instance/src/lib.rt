@@ -1,4 +1,6 @@
 // One step of a list: values by where they stand, and the number of the refusal of its instance.
+#![tactic(auto)]
+
 ghost use Rattle.std.specs.Prelude.{◌≡◌, [], ◌+◌, ◌<◌, ◌≤◌, length, get_or, take, drop, pos};
 ghost use Rattle.meaning.specs.Book.{variable_window};
 ghost use Rattle.reply.specs.Answer.{number};

@@ -1,4 +1,6 @@
 // The functions exported to C and Rust: each is one call of the libraries, its answer told in document 01's numbers.
+#![tactic(auto)]
+
 ghost use Rattle.std.specs.Prelude.{◌≡◌};
 ghost use Rattle.reply.specs.Answer.{says};
 ghost use Rattle.kit.specs.Promises.{Tells, Hands, ReadsBook, ChecksDerivation, ChecksTrace, GivesTrace, GivesDerivation, PrintsText, ChecksModel};

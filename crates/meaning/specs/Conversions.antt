@@ -99,7 +99,7 @@ module _ (b : Book) (S : System) (L : Laws (length b.arities) S) (w : Wf b) wher
       → Follows b S σ (moves b S σ d) × Enabled S (last_head b o d) (final b S σ (moves b S σ d))
   forth σ o [] f e c = (tt, e)
   forth σ o (s ∷ d) f e c =
-      let (t, h) = forth (S.put (head b s) σ) (some (head b s)) d (L.fits-put σ (head b s) f) (L.Put-Holds σ (head b s) f (head-there w s c.0)) c.2 in
+      let (t, h) = forth (S.put (head b s) σ) (some (head b s)) d (L.fits-put σ (head b s) f) (L.put_holds σ (head b s) f (head-there w s c.0)) c.2 in
       ((c.0, rw c.1 e, refl, t), h)
 
   -- ---- trace to derivation

@@ -1,4 +1,6 @@
 // The model check: the bytes of a model against the bytes of a clause book.
+#![tactic(auto)]
+
 ghost use Rattle.std.specs.Prelude.{◌≡◌, ◌≤◌, ◌<◌, take};
 ghost use Rattle.reply.specs.Answer.{says};
 ghost use Rattle.book.specs.Read.{read};

@@ -1,6 +1,7 @@
 // Reads cases from standard input, each as the length of a book, the length of a model (four bytes
 // each, little-endian) and the bytes of both, and prints the whole reply of the model check on a
 // line for each. What must be printed is worked out by tests/model_cases.py.
+#![tactic(auto)]
 
 // A number without its sign.
 fn size(n: i32) -> usize {

@@ -1,1 +1,2 @@
 // What the model check answers, and why it is right: definitions and theorems in specs/, and no code.
+#![tactic(auto)]

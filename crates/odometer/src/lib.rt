@@ -1,4 +1,6 @@
 // The assignments of a clause's variables: how many there are, the first, and from one to the next in place.
+#![tactic(auto)]
+
 ghost use Rattle.std.specs.Prelude.{◌≡◌, ◌*◌, ◌≤◌, replicate, pos, ◌≤ℤ◌};
 ghost use Rattle.book.specs.Read.{read};
 ghost use Rattle.book.specs.Meaning.{book_in};

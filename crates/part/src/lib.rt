@@ -1,4 +1,6 @@
 // Printing the part of a clause in `trans`.
+#![tactic(auto)]
+
 ghost use Rattle.std.specs.Prelude.{◌≡◌, ◌⊎◌, ◌<◌, get_or};
 ghost use Rattle.meaning.specs.Book.{none_such};
 ghost use Rattle.sexp.specs.Sexp.{each, over};

@@ -1,4 +1,6 @@
 // A model's parts: where its constraints stand, and one assignment of a clause against them.
+#![tactic(auto)]
+
 ghost use Rattle.std.specs.Prelude.{◌≡◌, ◌+◌, ◌≤◌, ◌<◌, [], length, take};
 ghost use Rattle.meaning.specs.Constraint.{holds};
 ghost use Rattle.cursor.specs.Sound.{Arguments};

@@ -1,4 +1,6 @@
 // Printing into a lent room. A position past the room is counted and nothing is stored there, so that a text is measured by printing it into an empty room.
+#![tactic(auto)]
+
 ghost use Rattle.std.specs.Prelude.{◌≡◌, [], ◌∷◌, nat_abs};
 ghost use Rattle.put.specs.Room.{Wrote};
 ghost use Rattle.put.specs.Digits.{digits};

@@ -1,4 +1,6 @@
 // What a call answers: done, or the refusal.
+#![tactic(auto)]
+
 ghost use Rattle.std.specs.Prelude.{◌≡◌};
 ghost use Rattle.reply.specs.Answer.{refuse as refusal};
 ghost use Rattle.reply.specs.declared.Answer.TheVariants.{Refused};

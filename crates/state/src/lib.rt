@@ -1,4 +1,6 @@
 // The walked state of a trace: sixteen flags and sixteen rows of eight places, by value.
+#![tactic(auto)]
+
 ghost use Rattle.std.specs.Prelude.{◌≡◌, false, map, ◌+◌, ◌<◌, ◌≤◌, length, get_or, take, drop, pos};
 ghost use Rattle.meaning.specs.Book.{place_window, head, body};
 ghost use Rattle.meaning.specs.State as state;

@@ -1,4 +1,6 @@
 // One step of a list of numbers: the place after it, and its numbers copied into lent room.
+#![tactic(auto)]
+
 ghost use Rattle.std.specs.Prelude.{◌+◌, ◌≤◌, ◌≡◌, length, take, drop};
 ghost use Rattle.lists.specs.Places.{after as afterStep};
 ghost use Rattle.book.specs.Meaning.{book_in};

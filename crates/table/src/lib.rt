@@ -1,4 +1,6 @@
 // The clauses of an accepted book as a table, made once a call: eight numbers for each clause, so that a step finds what it needs of its clause in one row.
+#![tactic(auto)]
+
 ghost use Rattle.std.specs.Prelude.{◌≡◌, ◌+◌, ◌<◌, ◌≤◌, [], length, get_or};
 ghost use Rattle.book.specs.Read.{read};
 ghost use Rattle.book.specs.declared.Reading.TheVariants.{Good};

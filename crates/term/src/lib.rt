@@ -1,4 +1,6 @@
 // Printing the terms of the printed text: names, limits, equations, and a clause's constraint out of the bytes that hold it.
+#![tactic(auto)]
+
 ghost use Rattle.std.specs.Prelude.{[], ◌∷◌, ◌++◌, ◌+◌, ◌*◌, ◌≤◌, length};
 ghost use Rattle.sexp.specs.Bytes.{bytes};
 ghost use Rattle.sexp.specs.Sexp.{end, ◌&◌};

@@ -1,4 +1,6 @@
 // The printed text of a book, into a lent room.
+#![tactic(auto)]
+
 ghost use Rattle.std.specs.Prelude.{◌≡◌, ◌<◌};
 ghost use Rattle.reply.specs.Room.{Leaves};
 ghost use Rattle.meaning.specs.Book.{none_such, place_window};

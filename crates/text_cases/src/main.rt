@@ -2,6 +2,8 @@
 // each, little-endian) and the book, and prints a line for each: number and place of the printer's
 // answer, then what it wrote and the rest of the room, each as its length and a checksum of its
 // bytes. A short text follows as it is. What must be printed is worked out by tests/text_cases.py.
+#![tactic(auto)]
+
 ghost use Rattle.std.specs.Prelude.{◌≤◌, length};
 
 // A longer text is not printed.

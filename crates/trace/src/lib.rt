@@ -1,4 +1,6 @@
 // The trace check: whether a list of numbers is a trace that reaches a goal in the system of a clause book.
+#![tactic(auto)]
+
 ghost use Rattle.std.specs.Prelude.{◌≡◌, ◌+◌, ◌<◌, ◌≤◌, length, get_or, drop};
 ghost use Rattle.meaning.specs.State as state;
 ghost use Rattle.lists.specs.Derivation.{goal};

@@ -1,4 +1,6 @@
 // The truth of a constraint, worked out on the bytes that hold it.
+#![tactic(auto)]
+
 ghost use Rattle.std.specs.Prelude.{◌≡◌, ◌+◌, ◌*◌, ◌<◌, ◌≤◌, length, get_or, take, drop, pos};
 ghost use Rattle.std.specs.Int.{w32};
 ghost use Rattle.whole.specs.Whole.{Sized, Signed};

@@ -1,6 +1,8 @@
 // The printing program: reads a clause book from standard input and writes its text, or the one
 // line `refused N at P` with number and place. One byte more than the longest book has is read, and
 // nothing past it: a longer input is refused as 1 at 0 whatever else is in it.
+#![tactic(auto)]
+
 ghost use Rattle.std.specs.Prelude.{◌≤◌, length};
 
 use libc::STDIN_FILENO;

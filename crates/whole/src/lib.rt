@@ -1,4 +1,6 @@
 // Numbers out of bytes: of one, and little-endian of two and of four.
+#![tactic(auto)]
+
 ghost use Rattle.std.specs.Prelude.{◌≡◌, ◌+◌, ◌*◌, ◌<◌, ◌≤◌, length};
 ghost use Rattle.std.specs.Int.{w16, w32};
 ghost use Rattle.std.proofs.Common.{to_z};

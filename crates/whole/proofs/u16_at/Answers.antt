@@ -1,0 +1,6 @@
+use Rattle.whole.specs.Bytes.{u16_at}
+use Rattle.whole.proofs.u16_at.Goals as goal
+
+pub returns : goal.returns
+unfolding u16_at
+returns c = c.pair.ensures
