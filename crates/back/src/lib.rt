@@ -13,14 +13,14 @@ ghost use Rattle.back.specs.Walk.{Trace, body_count, Kept, Marked, Measures, Fil
 ghost use Rattle.back.specs.Gone.{Wrote, Due, Stepped, Left, Gone};
 
 // How many numbers the derivation has, and how many steps' starts are kept.
-#[derive(Drop)]
+#[derive(Clone, Copy)]
 pub struct Measured {
     pub numbers: usize,
     pub marks: usize,
 }
 
 // The relation whose last writer is wanted, 255 for none, and how many numbers are still to be written in front.
-#[derive(Drop)]
+#[derive(Clone, Copy)]
 pub struct Wanted {
     pub relation: usize,
     pub at: usize,

@@ -16,7 +16,7 @@ ghost use Rattle.book.specs.Laid.{past_arguments, record_of, Room};
 ghost use Rattle.book.specs.declared.Reading.TheVariants.{Good};
 
 // What the trailer says: the window, where the index starts, how many clauses and relations there are, and the query relation.
-#[derive(Drop)]
+#[derive(Clone, Copy)]
 pub struct Header {
     pub lo: i32,
     pub hi: i32,
@@ -27,21 +27,21 @@ pub struct Header {
 }
 
 // What reading a book answers: the header of an accepted book, or the refusal.
-#[derive(Drop)]
+#[derive(Clone, Copy)]
 pub enum Reading {
     Good(Header),
     Refused(reply::Refusal),
 }
 
 // The least and the greatest value that a place or a variable may have.
-#[derive(Drop)]
+#[derive(Clone, Copy)]
 pub struct Window {
     pub lo: i32,
     pub hi: i32,
 }
 
 // A part of a book: from byte `start` up to, and without, byte `end`.
-#[derive(Drop)]
+#[derive(Clone, Copy)]
 pub struct Span {
     pub start: usize,
     pub end: usize,

@@ -7,48 +7,48 @@ ghost use Rattle.cursor.specs.Walk.{constraint_at};
 ghost use Rattle.cursor.specs.Clause.{arguments_at, fact_at, body_at, parts_at, clause_at};
 
 // A place in the bytes, and how many nodes a constraint may still have.
-#[derive(Drop)]
+#[derive(Clone, Copy)]
 pub struct Cursor {
     pub at: usize,
     pub left: usize,
 }
 
 // A byte with the cursor past it, or the refusal.
-#[derive(Drop)]
+#[derive(Clone, Copy)]
 pub enum Byte {
     Got(u8, Cursor),
     Refused(reply::Refusal),
 }
 
 // A two-byte number with the cursor past it, or the refusal.
-#[derive(Drop)]
+#[derive(Clone, Copy)]
 pub enum Number {
     Got(u16, Cursor),
     Refused(reply::Refusal),
 }
 
 // A cursor that moved on, or the refusal.
-#[derive(Drop)]
+#[derive(Clone, Copy)]
 pub enum Step {
     Moved(Cursor),
     Refused(reply::Refusal),
 }
 
 // Where a sum's coefficients start.
-#[derive(Drop)]
+#[derive(Clone, Copy)]
 pub struct Atom {
     pub at: usize,
 }
 
 // A comparison of a sum with zero, kinds 1 and 2.
-#[derive(Drop)]
+#[derive(Clone, Copy)]
 pub enum Comparison {
     AtMost(Atom),
     Equal(Atom),
 }
 
 // A remainder's sum, divisor and what is to be left, kind 6.
-#[derive(Drop)]
+#[derive(Clone, Copy)]
 pub struct Remains {
     pub sum: Atom,
     pub d: u16,
@@ -56,7 +56,7 @@ pub struct Remains {
 }
 
 // A node of a constraint: one of seven kinds, each with its own data.
-#[derive(Drop)]
+#[derive(Clone, Copy)]
 pub enum Node {
     True,
     Compare(Comparison),
@@ -67,14 +67,14 @@ pub enum Node {
 }
 
 // A node with the cursor past it, or the refusal.
-#[derive(Drop)]
+#[derive(Clone, Copy)]
 pub enum NodeStep {
     Got(Node, Cursor),
     Refused(reply::Refusal),
 }
 
 // A clause record's parts, by the places where they start.
-#[derive(Drop)]
+#[derive(Clone, Copy)]
 pub struct Clause {
     pub variables: u8,
     pub body: u8,
@@ -85,7 +85,7 @@ pub struct Clause {
 }
 
 // A clause record's parts with the cursor past them, or the refusal.
-#[derive(Drop)]
+#[derive(Clone, Copy)]
 pub enum ClauseStep {
     Got(Clause, Cursor),
     Refused(reply::Refusal),

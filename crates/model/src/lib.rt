@@ -14,7 +14,7 @@ ghost use Rattle.parts.specs.Task.{Started, Tasked};
 ghost use Rattle.model.specs.Reply.{told, Replies, clause_answer, walk_answer, weighed_answer};
 
 // What the check replies: its answer, how many assignments were examined, and of a broken instance its clause and values.
-#[derive(Drop)]
+#[derive(Clone, Copy)]
 pub struct Reply {
     pub answer: reply::Answer,
     pub count: usize,

@@ -12,21 +12,21 @@ ghost use Rattle.models.specs.Read.{number_in, rule_at, pass_at};
 ghost use Rattle.parts.specs.Task.{places_of, met_in, breaks_in, Side, Ready, Scanned, Taken, half_of};
 
 // Where each relation's constraint starts in the model, and where the model ends, or the refusal.
-#[derive(Drop)]
+#[derive(Clone, Copy)]
 pub struct Scan {
     pub starts: [usize; 16],
     pub end: cursor::Step,
 }
 
 // A relation in the model: how many places it has, and where its constraint starts.
-#[derive(Drop)]
+#[derive(Clone, Copy)]
 pub struct Half {
     pub places: u8,
     pub rule: usize,
 }
 
 // A clause, and the relations of its body and its head in the model.
-#[derive(Drop)]
+#[derive(Clone, Copy)]
 pub struct Task {
     pub clause: cursor::Clause,
     pub body: Half,

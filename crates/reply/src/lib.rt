@@ -6,14 +6,14 @@ ghost use Rattle.reply.specs.Answer.{refuse as refusal};
 ghost use Rattle.reply.specs.declared.Answer.TheVariants.{Refused};
 
 // A refusal: its number and place.
-#[derive(Drop)]
+#[derive(Clone, Copy)]
 pub struct Refusal {
     pub number: u8,
     pub place: usize,
 }
 
 // Done, with the length that was written (0 where nothing is), or the refusal.
-#[derive(Drop)]
+#[derive(Clone, Copy)]
 pub enum Answer {
     Done(usize),
     Refused(Refusal),

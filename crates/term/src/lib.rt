@@ -20,14 +20,14 @@ use cursor::{Comparison, Cursor, Node, NodeStep, Remains};
 use put::{decimal, put, put_all, signed, signed32};
 
 // The places of a relation, or the variables of a clause.
-#[derive(Drop)]
+#[derive(Clone, Copy)]
 pub enum Row {
     Places(usize),
     Inputs(usize),
 }
 
 // A relation's flag, or one of a row.
-#[derive(Drop)]
+#[derive(Clone, Copy)]
 pub enum Name {
     Flag(usize),
     Item(Row, usize),
@@ -174,7 +174,7 @@ fn remains(room: &mut [u8], at: usize, s: &[u8], k: usize, v: u8, m: Remains) ->
 }
 
 // Where printing stands, and where reading does.
-#[derive(Drop)]
+#[derive(Clone, Copy)]
 pub struct Stand {
     pub at: usize,
     pub next: Cursor,

@@ -87,7 +87,7 @@ fn parts(k: u8) -> usize
 }
 
 // A constraint with none below it: whether it is true, and where it ends.
-#[derive(Drop)]
+#[derive(Clone, Copy)]
 struct Leaf {
     met: bool,
     past: usize,
@@ -160,7 +160,7 @@ fn bits(first: bool, want: bool) -> u64
 }
 
 // Sides that wait, 1 and then two bits each with the nearest lowest, and how many were passed by.
-#[derive(Drop)]
+#[derive(Clone, Copy)]
 struct Waiting {
     sides: u64,
     passed: usize,
