@@ -17,7 +17,7 @@ use Rattle.cursor.specs.declared.NodeStep.TheVariants as node-steps
 use Rattle.cursor.specs.declared.Clause.{Clause}
 use Rattle.cursor.specs.declared.ClauseStep.{ClauseStep}
 use Rattle.cursor.specs.declared.ClauseStep.TheVariants as clauses
-use Rattle.cursor.specs.Steps.{pick, value_then, byte_then, number_then, step_then-holds, node_then, byte_at, below_at, relation_at, variable_at, skip_at, number_at, kind_at, sum_at, remains_at, node_at}
+use Rattle.cursor.specs.Steps.{pick, value_then, byte_then, number_then, step_then, node_then, byte_at, below_at, relation_at, variable_at, skip_at, number_at, kind_at, sum_at, remains_at, node_at}
 use Rattle.cursor.specs.Walk.{follow, constraint_at}
 use Rattle.cursor.specs.Clause.{clause_then, arguments_at, fact_at, body_at, parts_at, clause_at}
 use Rattle.cursor.specs.Inverse.{pick-by, kinds-by}
@@ -67,8 +67,8 @@ module _ {A : Type 0} (P : A → Type 0) (stop : Refusal → A) (stops : (r : Re
   number-then (numbers.Got b c) go h k = k b c
   number-then (numbers.Refused r) go h k = stops r h
 
-  step_then-holds : (y : Step) (go : Cursor → A) → OfStep y → ((c : Cursor) → P (go c)) → P (step_then-holds y go stop)
-  unfolding step_then-holds
+  step_then-holds : (y : Step) (go : Cursor → A) → OfStep y → ((c : Cursor) → P (go c)) → P (step_then y go stop)
+  unfolding step_then
   step_then-holds (steps.Moved c) go h k = k c
   step_then-holds (steps.Refused r) go h k = stops r h
 

@@ -10,7 +10,7 @@ use Rattle.meaning.specs.Constraint.{Sum, Constraint, truth, at_most, equal, not
 use Rattle.meaning.specs.Book.{Atom, Clause, Book}
 use Rattle.meaning.specs.Limits.{Each, Numbers, SumLimits, AtomLimits, BodyLimits, ClauseLimits, Limits}
 use Rattle.meaning.specs.Wf.{each_at}
-use Rattle.encode.specs.Encode.{spell, sum_bytes, constraint_bytes, atom_bytes, body_bytes-small, clause_bytes, starts, index_start, trailer_bytes, encode}
+use Rattle.encode.specs.Encode.{spell, sum_bytes, constraint_bytes, atom_bytes, body_bytes, clause_bytes, starts, index_start, trailer_bytes, encode}
 use Rattle.encode.specs.Stands.{Bytes}
 
 abbrev All : List ℕ → Type 0
@@ -76,8 +76,8 @@ module _ (arities : List ℕ) (few : length arities ≤ 16) where
   unfolding atom_bytes
   atom-bytes v a h l = (omega (arith, l.there), weaker (λ (i : ℕ). i < v) (λ (n : ℕ). n < 256) (λ x k. omega arith) a.args l.known)
 
-  body_bytes-small : (v : ℕ) (o : Option Atom) → v ≤ 16 → BodyLimits arities v o → All (body_bytes-small o)
-  unfolding body_bytes-small
+  body_bytes-small : (v : ℕ) (o : Option Atom) → v ≤ 16 → BodyLimits arities v o → All (body_bytes o)
+  unfolding body_bytes
   body_bytes-small v none h l = (omega arith, tt)
   body_bytes-small v (some a) h l = atom-bytes v a h l
 
@@ -86,7 +86,7 @@ module _ (arities : List ℕ) (few : length arities ≤ 16) where
   clause-bytes c l =
       let h = l.few in (
         omega arith,
-        join (body_bytes-small c.body) _ (body_bytes-small c.vars c.body h l.body)
+        join (body_bytes c.body) _ (body_bytes-small c.vars c.body h l.body)
             (join (atom_bytes c.head) _ (atom-bytes c.vars c.head h l.head) (constraint-bytes c.vars c.rule l.rule.numbers)),
       )
 

@@ -14,7 +14,7 @@ use mir.Syntax.{w32}
 use mir.Val.{hbits, to_z, of_z}
 use Rattle.whole.specs.Whole.{own}
 use Rattle.meaning.specs.Book.{Book, Window, place_window}
-use Rattle.meaning.specs.State.{Control, State, flags, bit, low_row, rows_of-low_rows, first}
+use Rattle.meaning.specs.State.{Control, State, flags, bit, low_row, low_rows, first}
 use Rattle.lists.specs.Trace.{flat, sum}
 use Rattle.state.specs.State.{front, rows_of, placed, state_of}
 use Rattle.state.specs.Laws.{front-take, front-more, front-replicate, bits-length}
@@ -85,7 +85,7 @@ low-snoc : (w : ℕ → Window) (n : ℕ) → low_row w (suc n) ≡ low_row w n 
 low-snoc w zero = refl
 low-snoc w (suc n) = ap (◌∷◌ (w 0).lo) (low-snoc (λ i. w (suc i)) n)
 
-lows-snoc : (w : ℕ → ℕ → Window) (n k : ℕ) → rows_of-low_rows w (replicate (suc n) k) ≡ rows_of-low_rows w (replicate n k) ++ (low_row (w n) k ∷ [])
+lows-snoc : (w : ℕ → ℕ → Window) (n k : ℕ) → low_rows w (replicate (suc n) k) ≡ low_rows w (replicate n k) ++ (low_row (w n) k ∷ [])
 lows-snoc w zero k = refl
 lows-snoc w (suc n) k = ap (◌∷◌ (low_row (w 0) k)) (lows-snoc (λ r. w (suc r)) n k)
 
@@ -93,7 +93,7 @@ low-length : (w : ℕ → Window) (n : ℕ) → length (low_row w n) ≡ n
 low-length w zero = refl
 low-length w (suc n) = ap suc (low-length (λ i. w (suc i)) n)
 
-lows-length : (w : ℕ → ℕ → Window) (n k : ℕ) → length (rows_of-low_rows w (replicate n k)) ≡ n
+lows-length : (w : ℕ → ℕ → Window) (n k : ℕ) → length (low_rows w (replicate n k)) ≡ n
 lows-length w zero k = refl
 lows-length w (suc n) k = ap suc (lows-length (λ r. w (suc r)) n k)
 
@@ -105,7 +105,7 @@ abbrev pub low_upto : (ℕ → Window) → ℕ → List ℤ
 low_upto w j = front (pos 0) 8 (low_row w j)
 
 abbrev pub lows_upto : (ℕ → ℕ → Window) → ℕ → List (List ℤ)
-lows_upto w r = front (replicate 8 (pos 0)) 16 (rows_of-low_rows w (replicate r 8))
+lows_upto w r = front (replicate 8 (pos 0)) 16 (low_rows w (replicate r 8))
 
 module _ (w : ℕ → Window) where
   pub low-none : replicate 8 (pos 0) ≡ low_upto w 0
@@ -128,10 +128,10 @@ module _ (w : ℕ → ℕ → Window) where
   pub lows-more : (rows : List (List ℤ)) (r : ℕ) {v : List ℤ} → r < 16 → v ≡ low_row (w r) 8 → rows ≡ lows_upto w r → set rows r v ≡ lows_upto w (r + 1)
   lows-more rows r {v} h k e =
       let n = lows-length w r 8 in
-      rw (e, add-one r, lows-snoc w r 8, k) (rw n at (front-more (replicate 8 (pos 0)) 16 (rows_of-low_rows w (replicate r 8)) (low_row (w r) 8) (omega arith)))
+      rw (e, add-one r, lows-snoc w r 8, k) (rw n at (front-more (replicate 8 (pos 0)) 16 (low_rows w (replicate r 8)) (low_row (w r) 8) (omega arith)))
 
-  pub lows-all : (rows : List (List ℤ)) (r : ℕ) → rows ≡ lows_upto w r → r ≡ 16 → rows ≡ rows_of-low_rows w (replicate 16 8)
-  lows-all rows r q e = (rw e at q) ∙ front-all (replicate 8 (pos 0)) 16 (rows_of-low_rows w (replicate 16 8)) (lows-length w 16 8)
+  pub lows-all : (rows : List (List ℤ)) (r : ℕ) → rows ≡ lows_upto w r → r ≡ 16 → rows ≡ low_rows w (replicate 16 8)
+  lows-all rows r q e = (rw e at q) ∙ front-all (replicate 8 (pos 0)) 16 (low_rows w (replicate 16 8)) (lows-length w 16 8)
 
 low-front : (w : ℕ → Window) (n k : ℕ) → n ≤ k → front (pos 0) n (low_row w k) ≡ low_row w n
 unfolding front
@@ -139,7 +139,7 @@ low-front w zero k h = refl
 low-front w (suc n) zero h = absurd (not-suc-le-zero h)
 low-front w (suc n) (suc k) h = ap (◌∷◌ (w 0).lo) (low-front (λ j. w (suc j)) n k (le_of_suc-le-suc h))
 
-rows_of-low_rows : (w : ℕ → ℕ → Window) (ns : List ℕ) (m k : ℕ) → length ns ≤ m → ((r : ℕ) → r < length ns → get_or ns r 0 ≤ k) → rows_of ns (rows_of-low_rows w (replicate m k)) ≡ rows_of-low_rows w ns
+rows_of-low_rows : (w : ℕ → ℕ → Window) (ns : List ℕ) (m k : ℕ) → length ns ≤ m → ((r : ℕ) → r < length ns → get_or ns r 0 ≤ k) → rows_of ns (low_rows w (replicate m k)) ≡ low_rows w ns
 unfolding rows_of
 rows_of-low_rows w [] m k h f = refl
 rows_of-low_rows w (n ∷ ns) zero k h f = absurd (not-suc-le-zero h)
@@ -147,10 +147,10 @@ rows_of-low_rows w (n ∷ ns) (suc m) k h f = λ i.
     low-front (w 0) n k (f 0 (omega arith)) i ∷ rows_of-low_rows (λ r. w (suc r)) ns m k (le_of_suc-le-suc h) (λ r q. f (suc r) (omega arith)) i
 
 module _ (b : Book) (few : length b.arities ≤ 16) (small : (r : ℕ) → r < length b.arities → get_or b.arities r 0 ≤ 8) where
-  pub placed-low : (C : Control) → placed C (C.start (length b.arities)) b.arities (rows_of-low_rows (place_window b) (replicate 16 8)) ≡ first b C
+  pub placed-low : (C : Control) → placed C (C.start (length b.arities)) b.arities (low_rows (place_window b) (replicate 16 8)) ≡ first b C
   placed-low C = λ i. record { ctl = C.start (length b.arities); rows = rows_of-low_rows (place_window b) b.arities 16 8 few small i }
 
   -- no flag is set
-  pub state-low : state_of b.arities (replicate 16 false) (rows_of-low_rows (place_window b) (replicate 16 8)) ≡ first b flags
+  pub state-low : state_of b.arities (replicate 16 false) (low_rows (place_window b) (replicate 16 8)) ≡ first b flags
   unfolding state_of
-  state-low = ap (λ (κ : List Bool). placed flags κ b.arities (rows_of-low_rows (place_window b) (replicate 16 8))) (front-replicate false (length b.arities) 16) ∙ placed-low flags
+  state-low = ap (λ (κ : List Bool). placed flags κ b.arities (low_rows (place_window b) (replicate 16 8))) (front-replicate false (length b.arities) 16) ∙ placed-low flags
