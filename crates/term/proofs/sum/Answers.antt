@@ -1,0 +1,23 @@
+use Rattle.std.proofs.Common.{arith}
+use Rattle.sexp.specs.Sexp.{onto}
+use Rattle.cursor.specs.Tree.{sum_of}
+use Rattle.put.proofs.Laws.{join, one, all, relist, wrote-length, each_after, each_more, each_all}
+use Rattle.script.specs.Terms as term
+use Rattle.term.proofs.Laws.{read-num, read-product, product_at, products-are}
+use Rattle.term.proofs.sum.Goals as goal
+
+pub loop-i-init : goal.loop-i-init
+loop-i-init c = (omega arith, each_after _ c.signed-o.ensures.text)
+
+pub loop-i-preserved : goal.loop-i-preserved
+unfolding product_at
+loop-i-preserved c =
+    (omega arith, each_more _ _ c.loop-i.invariant.1 (read-product c.i16_at.type_inv c.i16_at.ensures _ _ c.product-o.ensures))
+
+pub returns : goal.returns
+unfolding onto term.sum sum_of
+returns c =
+    record { text = join c.put_all-a.ensures (one (read-num c.i32_at.type_inv c.i32_at.ensures c.signed-o.ensures) (all (relist (products-are _ _ _ _) (each_all _ (omega arith) (omega arith) c.loop-i.invariant.1)) c.put.ensures)) }
+
+pub shape_of-room : goal.shape_of-room
+shape_of-room c = wrote-length (returns (goal.at.shape_of-room c).After-slice_known-4-1).text
