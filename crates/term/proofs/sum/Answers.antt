@@ -20,4 +20,4 @@ returns c =
     record { text = join c.put_all-a.ensures (one (read-num c.i32_at.type_inv c.i32_at.ensures c.signed-o.ensures) (all (relist (products-are _ _ _ _) (each_all _ (omega arith) (omega arith) c.loop-i.invariant.1)) c.put.ensures)) }
 
 pub shape_of-room : goal.shape_of-room
-shape_of-room c = wrote-length (returns (goal.at.shape_of-room c).After-slice_known-4-1).text
+shape_of-room c = wrote-length (returns c).text
