@@ -1,4 +1,4 @@
-use Rattle.std.proofs.Common.{get_or, length, ℕ, ◌-◌, ◌<◌, ◌≡◌, ◌≤◌}
+use Rattle.std.proofs.Common.{[], get_or, length, ℕ, ◌-◌, ◌<◌, ◌≡◌, ◌≤◌}
 use Rattle.table.specs.Table.{Row}
 use Rattle.table.proofs.table_of.Given as goal
 
