@@ -1,0 +1,9 @@
+use Rattle.std.proofs.Common.{arith}
+use Rattle.part.proofs.Laws.{but_same, but-other}
+use Rattle.part.proofs.frame_but.Goals as goal
+
+pub returns-then-r-h : goal.returns-then-r-h
+returns-then-r-h c = but_same _ _ _ c.if-r-h.true (omega arith) (omega arith)
+
+pub returns : goal.returns
+returns c = but-other _ _ _ c.if-r-h.false c.frame.ensures
