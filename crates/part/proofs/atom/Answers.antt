@@ -37,4 +37,4 @@ returns c =
     record { text = join c.put-a.ensures (join c.word_in-a.ensures (relist (arguments-are _ _ _ _ _ _ c.requires.stands.within) (each_all _ (omega arith) (omega arith) c.loop-i.invariant.1)).text) }
 
 pub shape_of-room : goal.shape_of-room
-shape_of-room c = wrote-length (returns (goal.at.shape_of-room c).After-loop-i).text
+shape_of-room c = wrote-length (returns c).text

@@ -19,4 +19,4 @@ returns c =
     record { text = all c.same-a.ensures (each_all _ (omega arith) (omega arith) c.loop-i.invariant.1).text }
 
 pub shape_of-room : goal.shape_of-room
-shape_of-room c = wrote-length (returns (goal.at.shape_of-room c).After-loop-i).text
+shape_of-room c = wrote-length (returns c).text

@@ -20,4 +20,4 @@ returns c =
     each_all _ (omega arith) (omega arith) c.loop-r.invariant.1
 
 pub shape_of-room : goal.shape_of-room
-shape_of-room c = wrote-length (returns (goal.at.shape_of-room c).After-loop-r).text
+shape_of-room c = wrote-length (returns c).text

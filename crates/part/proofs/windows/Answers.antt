@@ -17,4 +17,4 @@ pub returns : goal.returns
 returns c = each_all _ (omega arith) (omega arith) c.loop-i.invariant.1
 
 pub shape_of-room : goal.shape_of-room
-shape_of-room c = wrote-length (returns (goal.at.shape_of-room c).After-loop-i).text
+shape_of-room c = wrote-length (returns c).text
