@@ -1,0 +1,10 @@
+use Rattle.sexp.specs.Sexp.{onto, lines_onto}
+use Rattle.put.proofs.Laws.{join, all, more, relist}
+use Rattle.script.specs.Lines as lines
+use Rattle.text.proofs.Laws.{denied-are}
+use Rattle.text.proofs.init.Goals as goal
+
+pub returns : goal.returns
+unfolding onto lines_onto lines.init_line
+returns c =
+    record { text = join c.put_all-a.ensures (more _ _ (relist (denied-are _ _ c.requires) c.denied-a.ensures) (all c.place_limits-a.ensures c.put_all.ensures)) }
