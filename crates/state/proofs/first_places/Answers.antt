@@ -33,30 +33,27 @@ bounds-rows-r c = few (goal.at.bounds-rows-r c).In-loop-r
 
 pub load-requires : goal.load-requires
 load-requires c =
-    let i = c in
     let m = c.arity_of-many.ensures in
-    (omega (arith, m.1), omega (arith, places i, m.0, c.requires.h_in_bounds))
+    (omega (arith, m.1), omega (arith, places (goal.at.load-requires c).In-loop-r, m.0, c.requires.h_in_bounds))
 
 pub overflow_add-p : goal.overflow_add-p
 overflow_add-p c =
-    let i = c in
-    record { fits = omega (arith, places i, c.arity_of-many.ensures.0, c.requires.h_in_bounds) }
+    record { fits = omega (arith, places (goal.at.overflow_add-p c).In-loop-r, c.arity_of-many.ensures.0, c.requires.h_in_bounds) }
 
 pub loop-r-preserved : goal.loop-r-preserved
 loop-r-preserved c =
-    let i = c in
     let a = c.args in
     let ns = (book_in a.book.now a.h).arities in
     let l = drop a.at a.list.now in
     let t = c.loop-r in
     let m = c.arity_of-many in
-    let fits : t.p + m.result ≤ length a.list.now = omega (arith, places i, m.ensures.0, c.requires.h_in_bounds) in
+    let fits : t.p + m.result ≤ length a.list.now = omega (arith, places (goal.at.loop-r-preserved c).In-loop-r, m.ensures.0, c.requires.h_in_bounds) in
     let v = take m.result (drop t.p a.list.now) in
     let long : length v ≡ m.result = length-take-le m.result (drop t.p a.list.now) (rw length-drop (omega arith)) in
-    let is : v ≡ get_or (cut ns l) t.r [] = rw m.ensures.0 (load_row ns l a.list.now a.at t.p t.r refl t.invariant.1 (below i)) in (
+    let is : v ≡ get_or (cut ns l) t.r [] = rw m.ensures.0 (load_row ns l a.list.now a.at t.p t.r refl t.invariant.1 (below (goal.at.loop-r-preserved c).In-loop-r)) in (
       omega arith,
-      omega (arith, places i, m.ensures.0),
-      rw (c.load.ensures, t.invariant.2) (loaded-more ns l t.r (below i) (arities-few a.book.now a.h c.requires.book_value) v is (omega (arith, m.ensures.1))),
+      omega (arith, places (goal.at.loop-r-preserved c).In-loop-r, m.ensures.0),
+      rw (c.load.ensures, t.invariant.2) (loaded-more ns l t.r (below (goal.at.loop-r-preserved c).In-loop-r) (arities-few a.book.now a.h c.requires.book_value) v is (omega (arith, m.ensures.1))),
     )
 
 pub returns : goal.returns

@@ -19,20 +19,19 @@ module _ (x : Start) where
       )
 
 pub bounds-flags-relation : goal.bounds-flags-relation
-bounds-flags-relation c = below (goal.at.bounds-flags-relation c).After-shared_slice_known-1
+bounds-flags-relation c = below (goal.at.bounds-flags-relation c).Start
 
 pub bounds-rows-relation : goal.bounds-rows-relation
-bounds-rows-relation c = below (goal.at.bounds-rows-relation c).After-shared_slice_known-1
+bounds-rows-relation c = below (goal.at.bounds-rows-relation c).Start
 
 pub row_differs-requires : goal.row_differs-requires
 row_differs-requires c = (omega arith, omega (arith, small (goal.at.row_differs-requires c).Start))
 
 pub returns-then-flags-relation : goal.returns-then-flags-relation
 returns-then-flags-relation c =
-    let x = c in
-    let a = x.args in
-    holds_on a.book.now a.h x.requires.book_value a.flags.now a.rows.now a.relation a.values.now x.requires.relation_lt_relations.0 x.requires.relation_lt_relations.1
-    (omega (arith, small x)) c.row_differs.ensures c.if1.true
+    let a = c.args in
+    holds_on a.book.now a.h c.requires.book_value a.flags.now a.rows.now a.relation a.values.now c.requires.relation_lt_relations.0 c.requires.relation_lt_relations.1
+    (omega (arith, small (goal.at.returns-then-flags-relation c).Start)) c.row_differs.ensures c.if-flags-relation.true
 
 pub returns-else-flags-relation : goal.returns-else-flags-relation
 returns-else-flags-relation c =

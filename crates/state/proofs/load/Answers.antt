@@ -12,14 +12,13 @@ loop-j-init c = let a = c.args in (omega arith, refl, sym (over_none (take a.n (
 
 pub loop-j-preserved : goal.loop-j-preserved
 loop-j-preserved c =
-    let x = c in
-    let a = x.args in
+    let a = c.args in
     let t = c.loop-j in
     let k = c.loop-j-test.true in (
       omega arith,
       rw length-set t.invariant.1,
       row_more t.row _ _ t.j _ c.row-1.given (sym (get_or-take a.n (drop a.at a.list.now) t.j (pos 0) k ∙ get_or-drop a.at a.list.now t.j (pos 0)))
-          (omega (arith, long x)) (omega arith) t.invariant.2,
+          (omega (arith, long (goal.at.loop-j-preserved c).Start)) (omega arith) t.invariant.2,
     )
 
 pub returns : goal.returns

@@ -40,8 +40,8 @@ values_are-requires c =
     let a = c.args in
     let q = c.cell-r.ensures.0 in
     let n = c.if-r-eq255.false in
-    let u = c.cell2.ensures.0 in
-    let v = c.cell3.ensures.0 in (
+    let u = c.cell-p.ensures.0 in
+    let v = c.cell-n.ensures.0 in (
       body-valued c.requires.tabled c.requires.k_lt_count.0 a.list.now a.from a.flags.now a.rows.now q n u v c.requires.k_lt_count.1,
       omega (arith, body-small c.requires.tabled c.requires.k_lt_count.0 a.list.now a.from a.flags.now a.rows.now q n u v),
     )
@@ -51,11 +51,11 @@ returns-then-flags-r c =
     let a = c.args in
     let q = c.cell-r.ensures.0 in
     let n = c.if-r-eq255.false in
-    let u = c.cell2.ensures.0 in
-    let v = c.cell3.ensures.0 in
+    let u = c.cell-p.ensures.0 in
+    let v = c.cell-n.ensures.0 in
     meets-row c.requires.tabled c.requires.k_lt_count.0 a.list.now a.from a.flags.now a.rows.now q n u v
     (omega (arith, body-small c.requires.tabled c.requires.k_lt_count.0 a.list.now a.from a.flags.now a.rows.now q n u v))
-    c.if2.true c.values_are.ensures
+    c.if-flags-r.true c.values_are.ensures
 
 pub returns-else-flags-r : goal.returns-else-flags-r
 returns-else-flags-r c =

@@ -34,37 +34,34 @@ bounds-rows-r c = few (goal.at.bounds-rows-r c).In-loop-r
 
 pub row_differs-d-requires : goal.row_differs-d-requires
 row_differs-d-requires c =
-    let i = c in
-    let m = c.arity-of.ensures in
-    (omega (arith, m.1), omega (arith, places i, m.0))
+    let m = c.arity_of-many.ensures in
+    (omega (arith, m.1), omega (arith, places (goal.at.row_differs-d-requires c).In-loop-r, m.0))
 
 pub overflow_add-p : goal.overflow_add-p
-overflow_add-p c = record { fits = omega (arith, places (goal.at.overflow_add-p c).At-loop-r, c.arity-of.ensures.0) }
+overflow_add-p c = record { fits = omega (arith, places (goal.at.overflow_add-p c).In-loop-r, c.arity_of-many.ensures.0) }
 
 pub returns-then-d-p : goal.returns-then-d-p
 returns-then-d-p c =
-    let i = c in
     let a = c.args in
-    let t = c.loop in
-    let m = c.arity-of in
+    let t = c.loop-r in
+    let m = c.arity_of-many in
     via t.invariant.2
-    (places-stop (book_in a.book.now a.h).arities t.r a.rows.now a.list.now t.p m.result (below i) m.ensures.0
-    (omega (arith, places i, m.ensures.0)) c.row_differs-d.ensures c.if-d-p.true refl)
+    (places-stop (book_in a.book.now a.h).arities t.r a.rows.now a.list.now t.p m.result (below (goal.at.returns-then-d-p c).In-loop-r) m.ensures.0
+    (omega (arith, places (goal.at.returns-then-d-p c).In-loop-r, m.ensures.0)) c.row_differs-d.ensures c.if-d-p.true refl)
 
 pub overflow_add-p-in-loop-r : goal.overflow_add-p-in-loop-r
-overflow_add-p-in-loop-r c = record { fits = omega (arith, places (goal.at.overflow_add-p-in-loop-r c).At-loop-r, c.arity-of.ensures.0) }
+overflow_add-p-in-loop-r c = record { fits = omega (arith, places (goal.at.overflow_add-p-in-loop-r c).In-loop-r, c.arity_of-many.ensures.0) }
 
 pub loop-r-preserved : goal.loop-r-preserved
 loop-r-preserved c =
-    let i = c in
     let a = c.args in
-    let t = c.loop in
-    let m = c.arity-of in (
+    let t = c.loop-r in
+    let m = c.arity_of-many in (
       omega arith,
-      omega (arith, places i, m.ensures.0),
+      omega (arith, places (goal.at.loop-r-preserved c).In-loop-r, m.ensures.0),
       via t.invariant.2
-          (places-on (book_in a.book.now a.h).arities t.r a.rows.now a.list.now t.p m.result (below i) m.ensures.0
-          (omega (arith, places i, m.ensures.0)) c.row_differs-d.ensures c.if-d-p.false refl),
+          (places-on (book_in a.book.now a.h).arities t.r a.rows.now a.list.now t.p m.result (below (goal.at.loop-r-preserved c).In-loop-r) m.ensures.0
+          (omega (arith, places (goal.at.loop-r-preserved c).In-loop-r, m.ensures.0)) c.row_differs-d.ensures c.if-d-p.false refl),
     )
 
 pub returns : goal.returns

@@ -31,12 +31,11 @@ overflow_add-p c = record { fits = omega (arith, places (goal.at.overflow_add-p 
 
 pub returns-then-o-p : goal.returns-then-o-p
 returns-then-o-p c =
-    let i = c in
     let a = c.args in
     let t = c.loop-r in
     let m = c.arity_of-many.ensures.0 in
-    sym (rows-stop (place_window (book_in a.book.now a.h)) (book_in a.book.now a.h).arities a.list.now t.r t.p (below i) m
-    (omega (arith, places i, m)) c.row_out-o.ensures c.if-o-p.true)
+    sym (rows-stop (place_window (book_in a.book.now a.h)) (book_in a.book.now a.h).arities a.list.now t.r t.p (below (goal.at.returns-then-o-p c).In-loop-r) m
+    (omega (arith, places (goal.at.returns-then-o-p c).In-loop-r, m)) c.row_out-o.ensures c.if-o-p.true)
     ∙ t.invariant.2
 
 pub overflow_add-p-in-loop-r : goal.overflow_add-p-in-loop-r
@@ -44,14 +43,13 @@ overflow_add-p-in-loop-r c = record { fits = omega (arith, places (goal.at.overf
 
 pub loop-r-preserved : goal.loop-r-preserved
 loop-r-preserved c =
-    let i = c in
     let a = c.args in
     let t = c.loop-r in
     let m = c.arity_of-many.ensures.0 in (
       omega arith,
-      omega (arith, places i, m),
-      sym (rows_on (place_window (book_in a.book.now a.h)) (book_in a.book.now a.h).arities a.list.now t.r t.p (below i) m
-          (omega (arith, places i, m)) c.row_out-o.ensures c.if-o-p.false)
+      omega (arith, places (goal.at.loop-r-preserved c).In-loop-r, m),
+      sym (rows_on (place_window (book_in a.book.now a.h)) (book_in a.book.now a.h).arities a.list.now t.r t.p (below (goal.at.loop-r-preserved c).In-loop-r) m
+          (omega (arith, places (goal.at.loop-r-preserved c).In-loop-r, m)) c.row_out-o.ensures c.if-o-p.false)
           ∙ t.invariant.2,
     )
 
