@@ -9,8 +9,7 @@ use Rattle.back.proofs.measure.Goals as goal
 pub loop-i-init : goal.loop-i-init
 loop-i-init c =
     let a = c.args in
-    let p = c.requires.1 in
-    (counted-first (book_in a.book.now a.h) flags a.list.now a.size p.0.size, marking-first (book_in a.book.now a.h) a.size a.list.now a.marks.now p.1.1)
+    (counted-first (book_in a.book.now a.h) flags a.list.now a.size c.requires.trace.size, marking-first (book_in a.book.now a.h) a.size a.list.now a.marks.now c.requires.relation_bound.1)
 
 pub keep-requires : goal.keep-requires
 keep-requires c = let m = c.loop-i.invariant.1 in (m.long, omega (arith, m.few), omega (arith, c.loop-i-test.true, c.requires.trace.few))
@@ -72,9 +71,8 @@ overflow_add-result c = record { fits = omega (arith, c.loop-i.invariant.1.few) 
 
 pub returns : goal.returns
 returns c =
-    let p = c.requires.1 in
     let (counted, marking) = c.loop-i.invariant in record {
-      is = counted-all p.0 counted c.loop-i-test.false c.args.relation p.1.0;
-      marked = marked_all p.0 counted marking c.loop-i-test.false (omega arith) (omega arith);
+      is = counted-all c.requires.trace counted c.loop-i-test.false c.args.relation c.requires.relation_bound.0;
+      marked = marked_all c.requires.trace counted marking c.loop-i-test.false (omega arith) (omega arith);
       rest = λ q k. marking.rest q (omega arith);
     }

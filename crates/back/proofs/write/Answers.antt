@@ -12,7 +12,7 @@ pub block_back-w-requires : goal.block_back-w-requires
 block_back-w-requires c =
     let t = c.loop-m in
     let some = c.loop-m-test.true in
-    let (table, (trace, (marked, _))) = c.requires in
+    let record { tabled = table; trace = trace; marked = marked; numbers_value = _; relation_bound = _ } = c.requires in
     let n : t.m * 512 ≡ (t.m - 1) * 512 + 512 = omega arith in record { tabled = table; trace = trace; m_bound = (omega (arith, marked.few, t.invariant.0), (marked.each (t.m - 1) (omega (arith, t.invariant.0))).0); left = left_at t.invariant.1.left n }
 
 pub loop-m-smaller : goal.loop-m-smaller
