@@ -26,7 +26,8 @@ step_back-w-requires c =
     let record { tabled = table; trace = trace; m_bound = (small, mark); left = left } = c.requires in
     let t = c.loop-k in
     let (p, q) = block-place trace a.m _ _ c.fill-k.result (c.wide.ensures ∙ mark) c.fill-k.ensures (t.k - 1) (omega (arith, c.loop-k-test.true, t.invariant.0)) in
-    (table, back-asks trace table (a.m * 512 + (t.k - 1)) _ (c.wide-in-loop-k.ensures ∙ p) (rw c.wide-in-loop-k.ensures q) t.w t.room (left_at t.invariant.1.left (omega (arith, c.loop-k-test.true))))
+    let asked = back-asks trace table (a.m * 512 + (t.k - 1)) _ (c.wide-in-loop-k.ensures ∙ p) (rw c.wide-in-loop-k.ensures q) t.w t.room (left_at t.invariant.1.left (omega (arith, c.loop-k-test.true))) in
+    record { tabled = table; here = asked.0; due = asked.1 }
 
 pub loop-k-smaller : goal.loop-k-smaller
 loop-k-smaller c = omega (arith, c.loop-k-test.true)

@@ -5,8 +5,8 @@ use Rattle.back.proofs.write.Goals as goal
 pub loop-m-init : goal.loop-m-init
 loop-m-init c =
     let a = c.args in
-    let (table, (trace, (marked, (is, (small, fits))))) = c.requires in
-    (omega arith, gone-here (left-first trace a.marks.now a.decreases.marks a.relation a.decreases.numbers a.room.now marked small is fits))
+    let record { tabled = _; trace = trace; marked = marked; numbers_value = is; relation_bound = (small, fits) } = c.requires in
+    (omega arith, gone-here (left-first trace a.marks.now a.measured.marks a.relation a.measured.numbers a.room.now marked small is fits))
 
 pub block_back-w-requires : goal.block_back-w-requires
 block_back-w-requires c =
@@ -30,5 +30,5 @@ shape_of-room c = c.loop-m.invariant.1.long
 pub returns : goal.returns
 returns c =
     let a = c.args in
-    let (table, (trace, (marked, (is, (small, fits))))) = c.requires in
-    all-written trace a.marks.now a.decreases.marks a.relation a.decreases.numbers a.room.now marked small c.loop-m.invariant.1 (omega (arith, c.loop-m-test.false))
+    let record { tabled = _; trace = trace; marked = marked; numbers_value = is; relation_bound = (small, fits) } = c.requires in
+    all-written trace a.marks.now a.measured.marks a.relation a.measured.numbers a.room.now marked small c.loop-m.invariant.1 (omega (arith, c.loop-m-test.false))
