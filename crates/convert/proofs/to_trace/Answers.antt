@@ -1,0 +1,20 @@
+use Rattle.convert.proofs.Laws.{replies-length, conversions, accepted}
+use Rattle.convert.proofs.to_trace.Goals as goal
+
+pub returns-in_default : goal.returns-in_default
+returns-in_default c = search conversions
+
+pub table_of-table-requires : goal.table_of-table-requires
+table_of-table-requires c = search accepted
+
+pub traced-requires : goal.traced-requires
+traced-requires c = record { tabled = c.table_of-table.ensures; walk = search accepted; long = search accepted }
+
+pub returns-in-Refused : goal.returns-in-Refused
+returns-in-Refused c = search conversions
+
+pub shape_of-room : goal.shape_of-room
+shape_of-room c = replies-length _ _ _ c.traced.ensures
+
+pub returns-in-Done : goal.returns-in-Done
+returns-in-Done c = search conversions

@@ -1,0 +1,38 @@
+use Rattle.std.proofs.Common.{arith}
+use Rattle.meaning.specs.State.{flags}
+use Rattle.lists.specs.Convert.{as_trace}
+use Rattle.book.specs.Meaning.{book_in}
+use Rattle.convert.proofs.Laws.{long-is, long-small, replies-long, replies-short, replies-put}
+use Rattle.convert.proofs.traced.Goals as goal
+
+pub size-size-requires : goal.size-size-requires
+size-size-requires c = c.requires.tabled.good
+
+pub overflow_add-all : goal.overflow_add-all
+overflow_add-all c = omega (arith, c.size-size.ensures.small, c.requires.long.few)
+
+pub overflow_mul-all : goal.overflow_mul-all
+overflow_mul-all c = record { fits = omega (arith, long-small c.requires.long c.size-size.ensures.small) }
+
+pub overflow_add-all-2 : goal.overflow_add-all-2
+overflow_add-all-2 c = record { fits = omega (arith, long-small c.requires.long c.size-size.ensures.small) }
+
+pub returns-then-all-gt1000000 : goal.returns-then-all-gt1000000
+returns-then-all-gt1000000 c =
+    let a = c.args in
+    rw c.refuse.ensures (replies-long (as_trace (book_in a.book.now a.h) flags a.list.now) a.room.now _ (long-is c.requires.long c.size-size.ensures.is) c.if-all-gt1000000.true)
+
+pub returns-then-room-all : goal.returns-then-room-all
+returns-then-room-all c =
+    let a = c.args in
+    rw c.refuse-then-room-all.ensures (replies-short (as_trace (book_in a.book.now a.h) flags a.list.now) a.room.now _ (long-is c.requires.long c.size-size.ensures.is) c.if-all-gt1000000.false c.if-room-all.true)
+
+pub write-requires : goal.write-requires
+write-requires c =
+    let record { tabled = table; walk = walk; long = long } = c.requires in
+    let size = c.size-size.ensures in record { tabled = table; walk = walk; sized = size; list_in_bounds = omega (arith, long-is long size.is, c.if-room-all.false) }
+
+pub returns : goal.returns
+returns c =
+    let a = c.args in
+    replies-put (as_trace (book_in a.book.now a.h) flags a.list.now) a.room.now _ (long-is c.requires.long c.size-size.ensures.is) _ c.if-all-gt1000000.false c.if-room-all.false c.write.ensures
