@@ -5,61 +5,71 @@
 // clause 0, and for both that of a clause number far off. What must be printed is worked out by tests/book_cases.py.
 #![tactic(auto)]
 
+use std::io;
+use std::io::{Read, Write};
+
 // Twice this number is 0 if it wraps.
 const FAR: usize = 9223372036854775808;
 
-fn print_part(book: &[u8], k: usize) {
-    console::print_sum(book::constraint_of(book, k));
+fn print_part<W: Write>(out: &mut W, book: &[u8], k: usize) -> io::Result<()> {
+    console::print_sum(out, book::constraint_of(book, k))
 }
 
 // The parts of the clauses 0 to last, that of a clause far off, and the end of the line.
-fn print_parts(book: &[u8], last: usize) {
+fn print_parts<W: Write>(out: &mut W, book: &[u8], last: usize) -> io::Result<()> {
     let mut k = 0;
     while k < last {
-        print_part(book, k);
+        print_part(out, book, k)?;
         k += 1;
     }
-    print_part(book, last);
-    print_part(book, FAR);
-    console::write(b"\n");
+    print_part(out, book, last)?;
+    print_part(out, book, FAR)?;
+    console::write(out, b"\n")
 }
 
-fn print_line(book: &[u8]) {
+fn print_line<W: Write>(out: &mut W, book: &[u8]) -> io::Result<()> {
     let reading = book::read_book(book);
     match reading {
         book::Reading::Good(h) => {
-            console::print_answer(0, 0);
-            print_parts(book, h.count);
+            console::print_answer(out, 0, 0)?;
+            print_parts(out, book, h.count)
         }
         book::Reading::Refused(r) => {
-            console::print_answer(r.number, r.place);
-            print_parts(book, 0);
+            console::print_answer(out, r.number, r.place)?;
+            print_parts(out, book, 0)
         }
     }
 }
 
 // Fills the room with a case and prints its line; false where the input ends before.
-fn fill_and_print(room: &mut [u8]) -> bool {
-    if !console::filled(room) {
-        return false;
+fn fill_and_print<R: Read, W: Write>(
+    input: &mut R,
+    out: &mut W,
+    room: &mut [u8],
+) -> io::Result<bool> {
+    if !console::filled(input, room)? {
+        return Ok(false);
     }
-    print_line(room);
-    true
+    print_line(out, room)?;
+    Ok(true)
 }
 
 // Reads the next case and prints its line; false where there is no whole case left.
-fn run_case(room: &mut [u8]) -> bool {
-    let n = console::next_length();
+fn run_case<R: Read, W: Write>(input: &mut R, out: &mut W, room: &mut [u8]) -> io::Result<bool> {
+    let n = console::next_length(input)?;
     if n > room.len() {
-        return false;
+        return Ok(false);
     }
-    fill_and_print(&mut room[..n])
+    fill_and_print(input, out, &mut room[..n])
 }
 
-fn main() {
+fn main(rt: HostRuntime) -> io::Result<()> {
+    let mut input = rt.reader();
+    let mut out = io::writer(&rt);
     let mut space = [0u8; 60001];
     let mut turns: u32 = 100000;
-    while turns > 0 && run_case(&mut space) {
+    while turns > 0 && run_case(&mut input, &mut out, &mut space)? {
         turns -= 1;
     }
+    Ok(())
 }

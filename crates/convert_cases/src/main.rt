@@ -10,14 +10,13 @@
 
 ghost use Rattle.std.specs.Prelude.{◌≤◌, ◌<◌, length};
 
-fn print_outcome(answer: reply::Answer) {
+use std::io;
+use std::io::{Read, Write};
+
+fn print_outcome<W: Write>(out: &mut W, answer: reply::Answer) -> io::Result<()> {
     match answer {
-        reply::Answer::Done(n) => {
-            console::print_answer(0, n);
-        }
-        reply::Answer::Refused(r) => {
-            console::print_answer(r.number, r.place);
-        }
+        reply::Answer::Done(n) => console::print_answer(out, 0, n),
+        reply::Answer::Refused(r) => console::print_answer(out, r.number, r.place),
     }
 }
 
@@ -58,35 +57,48 @@ fn checksum(room: &[i32]) -> usize {
     sum
 }
 
-fn print_checksum(room: &[i32]) {
-    console::write(b" ");
-    console::print(checksum(room));
-    console::write(b"\n");
+fn print_checksum<W: Write>(out: &mut W, room: &[i32]) -> io::Result<()> {
+    console::write(out, b" ")?;
+    console::print(out, checksum(room))?;
+    console::write(out, b"\n")
 }
 
-fn convert_and_print(
+fn convert_and_print<W: Write>(
+    out: &mut W,
     call: usize,
     book: &[u8],
     list: &[i32],
     relation: usize,
     values: &[i32],
     room: &mut [i32],
-) {
+) -> io::Result<()> {
     if call == 1 {
-        print_outcome(convert::to_trace(book, list, relation, values, room));
-        return;
+        return print_outcome(out, convert::to_trace(book, list, relation, values, room));
     }
-    print_outcome(convert::to_derivation(book, list, relation, values, room));
+    print_outcome(
+        out,
+        convert::to_derivation(book, list, relation, values, room),
+    )
 }
 
-fn run(call: usize, book: &[u8], list: &[i32], relation: usize, values: &[i32], room: &mut [i32]) {
+fn run<W: Write>(
+    out: &mut W,
+    call: usize,
+    book: &[u8],
+    list: &[i32],
+    relation: usize,
+    values: &[i32],
+    room: &mut [i32],
+) -> io::Result<()> {
     fill(room);
-    convert_and_print(call, book, list, relation, values, room);
-    print_checksum(room);
+    convert_and_print(out, call, book, list, relation, values, room)?;
+    print_checksum(out, room)
 }
 
 // Reads the rest of a case whose book has n bytes and whose room has k numbers, and prints its line.
-fn fill_and_run(
+fn fill_and_run<R: Read, W: Write>(
+    input: &mut R,
+    out: &mut W,
     call: usize,
     n: usize,
     k: usize,
@@ -94,71 +106,95 @@ fn fill_and_run(
     values: &mut [i32],
     list: &mut [i32],
     room: &mut [i32],
-)
+) -> io::Result<()>
     requires n_in_bounds { n ≤ length book.old }
     requires k_in_bounds { k ≤ length room.old }
 {
-    console::put_bytes(book, n);
-    let relation = console::long(console::next(), console::next());
-    let count = console::next();
-    let v = console::put_written(values, 0, count);
-    let m = console::put_list(list);
+    console::put_bytes(input, book, n)?;
+    let low = console::next(input)?;
+    let high = console::next(input)?;
+    let relation = console::long(low, high);
+    let count = console::next(input)?;
+    let v = console::put_written(input, values, 0, count)?;
+    let m = console::put_list(input, list)?;
     run(
+        out,
         call,
         &book[..n],
         &list[..m],
         relation,
         &values[..v],
         &mut room[..k],
-    );
+    )
 }
 
 // Reads a case, its call apart, and prints its line; false where it does not fit.
-fn run_in(
+fn run_in<R: Read, W: Write>(
+    input: &mut R,
+    out: &mut W,
     call: usize,
     book: &mut [u8],
     values: &mut [i32],
     list: &mut [i32],
     room: &mut [i32],
-) -> bool {
-    let k = console::next();
-    let n = console::next();
+) -> io::Result<bool> {
+    let k = console::next(input)?;
+    let n = console::next(input)?;
     if k > room.len() || n > book.len() {
-        return false;
+        return Ok(false);
     }
-    fill_and_run(call, n, k, book, values, list, room);
-    true
+    fill_and_run(input, out, call, n, k, book, values, list, room)?;
+    Ok(true)
 }
 
 // Reads the next case and prints its line; false where there is none left.
-fn run_case(book: &mut [u8], values: &mut [i32], smaller: &mut [i32], larger: &mut [i32]) -> bool {
-    let call = console::next();
-    let side = console::next();
+fn run_case<R: Read, W: Write>(
+    input: &mut R,
+    out: &mut W,
+    book: &mut [u8],
+    values: &mut [i32],
+    smaller: &mut [i32],
+    larger: &mut [i32],
+) -> io::Result<bool> {
+    let call = console::next(input)?;
+    let side = console::next(input)?;
     if call == 0 {
-        return false;
+        return Ok(false);
     }
     if side == 0 {
-        return run_in(call, book, values, smaller, larger);
+        return run_in(input, out, call, book, values, smaller, larger);
     }
-    run_in(call, book, values, larger, smaller)
+    run_in(input, out, call, book, values, larger, smaller)
 }
 
-fn run_all(
+fn run_all<R: Read, W: Write>(
+    input: &mut R,
+    out: &mut W,
     book: &mut [u8; 60001],
     values: &mut [i32; 32],
     smaller: &mut [i32; 500000],
     larger: &mut [i32; 1000001],
-) {
+) -> io::Result<()> {
     let mut turns: u32 = 100000;
-    while turns > 0 && run_case(book, values, smaller, larger) {
+    while turns > 0 && run_case(input, out, book, values, smaller, larger)? {
         turns -= 1;
     }
+    Ok(())
 }
 
-fn main() {
+fn main(rt: HostRuntime) -> io::Result<()> {
+    let mut input = rt.reader();
+    let mut out = io::writer(&rt);
     let mut book = [0u8; 60001];
     let mut values = [0i32; 32];
     let mut smaller = [0i32; 500000];
     let mut larger = [0i32; 1000001];
-    run_all(&mut book, &mut values, &mut smaller, &mut larger);
+    run_all(
+        &mut input,
+        &mut out,
+        &mut book,
+        &mut values,
+        &mut smaller,
+        &mut larger,
+    )
 }

@@ -9,59 +9,94 @@
 
 ghost use Rattle.std.specs.Prelude.{◌≤◌, length};
 
-fn print_line(answer: reply::Answer) {
+use std::io;
+use std::io::{Read, Write};
+
+fn print_line<W: Write>(out: &mut W, answer: reply::Answer) -> io::Result<()> {
     match answer {
         reply::Answer::Done(_) => {
-            console::print_answer(0, 0);
+            console::print_answer(out, 0, 0)?;
         }
         reply::Answer::Refused(r) => {
-            console::print_answer(r.number, r.place);
+            console::print_answer(out, r.number, r.place)?;
         }
     }
-    console::write(b"\n");
+    console::write(out, b"\n")
 }
 
-fn run(call: usize, book: &[u8], list: &[i32], relation: usize, values: &[i32]) {
+fn run<W: Write>(
+    out: &mut W,
+    call: usize,
+    book: &[u8],
+    list: &[i32],
+    relation: usize,
+    values: &[i32],
+) -> io::Result<()> {
     if call == 1 {
-        print_line(derivation::check(book, list, relation, values));
+        print_line(out, derivation::check(book, list, relation, values))
     } else {
-        print_line(trace::check(book, list, relation, values));
+        print_line(out, trace::check(book, list, relation, values))
     }
 }
 
 // Reads the rest of a case whose book has n bytes, and prints its line.
-fn fill_and_run(call: usize, n: usize, book: &mut [u8], list: &mut [i32], values: &mut [i32])
+fn fill_and_run<R: Read, W: Write>(
+    input: &mut R,
+    out: &mut W,
+    call: usize,
+    n: usize,
+    book: &mut [u8],
+    list: &mut [i32],
+    values: &mut [i32],
+) -> io::Result<()>
     requires { n ≤ length book.old }
 {
-    console::put_bytes(book, n);
-    let relation = console::long(console::next(), console::next());
-    let count = console::next();
-    let v = console::put_written(values, 0, count);
-    let m = console::put_list(list);
-    run(call, &book[..n], &list[..m], relation, &values[..v]);
+    console::put_bytes(input, book, n)?;
+    let low = console::next(input)?;
+    let high = console::next(input)?;
+    let relation = console::long(low, high);
+    let count = console::next(input)?;
+    let v = console::put_written(input, values, 0, count)?;
+    let m = console::put_list(input, list)?;
+    run(out, call, &book[..n], &list[..m], relation, &values[..v])
 }
 
 // Reads the next case and prints its line; false where there is none left.
-fn run_case(book: &mut [u8], list: &mut [i32], values: &mut [i32]) -> bool {
-    let call = console::next();
-    let n = console::next();
+fn run_case<R: Read, W: Write>(
+    input: &mut R,
+    out: &mut W,
+    book: &mut [u8],
+    list: &mut [i32],
+    values: &mut [i32],
+) -> io::Result<bool> {
+    let call = console::next(input)?;
+    let n = console::next(input)?;
     if call == 0 || n > book.len() {
-        return false;
+        return Ok(false);
     }
-    fill_and_run(call, n, book, list, values);
-    true
+    fill_and_run(input, out, call, n, book, list, values)?;
+    Ok(true)
 }
 
-fn run_all(book: &mut [u8; 60001], list: &mut [i32; 1000001], values: &mut [i32; 32]) {
+fn run_all<R: Read, W: Write>(
+    input: &mut R,
+    out: &mut W,
+    book: &mut [u8; 60001],
+    list: &mut [i32; 1000001],
+    values: &mut [i32; 32],
+) -> io::Result<()> {
     let mut turns: u32 = 100000;
-    while turns > 0 && run_case(book, list, values) {
+    while turns > 0 && run_case(input, out, book, list, values)? {
         turns -= 1;
     }
+    Ok(())
 }
 
-fn main() {
+fn main(rt: HostRuntime) -> io::Result<()> {
+    let mut input = rt.reader();
+    let mut out = io::writer(&rt);
     let mut book = [0u8; 60001];
     let mut list = [0i32; 1000001];
     let mut values = [0i32; 32];
-    run_all(&mut book, &mut list, &mut values);
+    run_all(&mut input, &mut out, &mut book, &mut list, &mut values)
 }

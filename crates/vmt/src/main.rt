@@ -5,12 +5,13 @@
 
 ghost use Rattle.std.specs.Prelude.{◌≤◌, length};
 
-use libc::STDIN_FILENO;
+use std::io;
+use std::io::Write;
 
-fn refuse(number: u8, place: usize) {
-    console::write(b"refused ");
-    console::print_answer(number, place);
-    console::write(b"\n");
+fn refuse<W: Write>(out: &mut W, number: u8, place: usize) -> io::Result<()> {
+    console::write(out, b"refused ")?;
+    console::print_answer(out, number, place)?;
+    console::write(out, b"\n")
 }
 
 // What was written lies within the room.
@@ -20,27 +21,25 @@ fn within(n: usize, size: usize) -> usize
     if n > size { size } else { n }
 }
 
-fn write_front(room: &[u8], n: usize)
+fn write_front<W: Write>(out: &mut W, room: &[u8], n: usize) -> io::Result<()>
     requires { n ≤ length room.now }
 {
-    console::write(&room[..n]);
+    console::write(out, &room[..n])
 }
 
-fn run(book: &[u8], room: &mut [u8]) {
+fn run<W: Write>(out: &mut W, book: &[u8], room: &mut [u8]) -> io::Result<()> {
     let printed = text::print(book, room);
     match printed {
-        reply::Answer::Done(n) => {
-            write_front(room, within(n, room.len()));
-        }
-        reply::Answer::Refused(r) => {
-            refuse(r.number, r.place);
-        }
+        reply::Answer::Done(n) => write_front(out, room, within(n, room.len())),
+        reply::Answer::Refused(r) => refuse(out, r.number, r.place),
     }
 }
 
-fn main() {
+fn main(rt: HostRuntime) -> io::Result<()> {
+    let mut from = rt.reader();
+    let mut out = io::writer(&rt);
     let mut input = [0u8; 60001];
     let mut room = [0u8; 65536];
-    let n = io::read_full(STDIN_FILENO, &mut input);
-    run(&input[..n], &mut room);
+    let n = console::read_full(&mut from, &mut input)?;
+    run(&mut out, &input[..n], &mut room)
 }
