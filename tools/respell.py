@@ -29,6 +29,9 @@ LOCAL = {
 # A word that is no name of its own is joined by an underscore.
 PLAIN = {"none-such": "none_such"}
 
+# Names that a `ghost use` line of a .rt file gives to a definition of another crate.
+GIVEN = {"stateSize": "state_size", "bodyMet": "body_met", "checkList": "check_list", "afterStep": "after_step"}
+
 
 def snake(name):
     """`placeWindow` is `place_window`; `eqVals-exact` is `eq_vals-exact`."""
@@ -54,7 +57,7 @@ def declared_names():
 
 
 def renamings(names):
-    table = dict(PLAIN)
+    table = {**PLAIN, **GIVEN}
     for name in names:
         if name[0].islower() and INSIDE.search(name):
             table[name] = snake(name)

@@ -14,7 +14,8 @@ use Rattle.reply.specs.declared.Answer as code
 use Rattle.reply.specs.declared.Answer.TheVariants.{Done, Refused}
 use Rattle.reply.specs.Answer.{Answer, refused, ok, need, and_then, refuse, says, told}
 use Rattle.reply.specs.Among.{told-ok, told-no}
-use Rattle.reply.specs.Room.{written, Leaves, written-wrote, written-needs, written-fair, fair-length}
+use Rattle.reply.specs.Room.{written, Leaves, written-wrote, fair-length}
+use Rattle.reply.proofs.Room.{written-needs, written-fair}
 use Rattle.meaning.specs.Book.{Book}
 use Rattle.meaning.specs.State.{Control, flags}
 use Rattle.meaning.specs.Laws.{flags-laws}

@@ -3,7 +3,7 @@
 
 ghost use Rattle.std.specs.Prelude.{◌<◌};
 ghost use Rattle.meaning.specs.State as state;
-ghost use Rattle.lists.specs.Trace.{size as stateSize};
+ghost use Rattle.lists.specs.Trace.{size as state_size};
 ghost use Rattle.reply.specs.Answer.{ok};
 ghost use Rattle.reply.specs.Room.{written, Leaves};
 ghost use Rattle.lists.specs.Convert.{as_trace, as_derivation};
@@ -25,7 +25,7 @@ fn derived(
     room: &mut [i32],
 ) -> reply::Answer
     requires tabled { Tabled book.now h table.now }
-    requires trace { Trace book.now h state.flags list.now (stateSize (book_in book.now h) state.flags) }
+    requires trace { Trace book.now h state.flags list.now (state_size (book_in book.now h) state.flags) }
     requires relation_bound { relation < 16 }
     ensures { Leaves (written ok (as_derivation (book_in book.now h) state.flags relation list.now) room.old) result room.new }
 {

@@ -6,7 +6,8 @@ use Rattle.meaning.specs.Book.{Book}
 use Rattle.reply.specs.declared.Answer as code
 use Rattle.reply.specs.Answer.{Answer, done, refused, number, place, says, told, says-told, Answers, answers_one}
 use Rattle.reply.specs.Among.{has, has-before, has-behind, Among, refused-not}
-use Rattle.reply.specs.Room.{Due, kept, written, Leaves, leaves-one, Fair, Front, written-wrote, written-needs}
+use Rattle.reply.specs.Room.{Due, kept, written, Leaves, leaves-one, Fair, Front, written-wrote}
+use Rattle.reply.proofs.Room.{written-needs}
 use Rattle.book.specs.OnBook.{on_book, on-refused, on_both, on-fair}
 use Rattle.book.specs.Numbers.{refused-number}
 use Rattle.kit.specs.Promises.{Tells}

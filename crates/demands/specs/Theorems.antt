@@ -6,7 +6,8 @@ use mathlib.Core.List.{List, [], ◌∷◌}
 use Rattle.std.proofs.lemmas.List.{length-replicate}
 use Rattle.reply.specs.Answer.{ok, refused, says, says-told, told}
 use Rattle.reply.specs.Among.{has, has-behind, among-ok, refused-not}
-use Rattle.reply.specs.Room.{written, written-fair}
+use Rattle.reply.specs.Room.{written}
+use Rattle.reply.proofs.Room.{written-fair}
 use Rattle.meaning.specs.Book.{Book, Fact, place_window, query}
 use Rattle.meaning.specs.Limits.{Limits}
 use Rattle.meaning.specs.System.{Move, Follows}

@@ -7,7 +7,7 @@ ghost use Rattle.meaning.specs.Book.{body};
 ghost use Rattle.reply.specs.Answer.{number, told, Answers};
 ghost use Rattle.lists.specs.Compare.{same};
 ghost use Rattle.lists.specs.Instance.{clause_at, step_at};
-ghost use Rattle.lists.specs.Derivation.{judge_step, check as checkList, check_derivation, goal};
+ghost use Rattle.lists.specs.Derivation.{judge_step, check as check_list, check_derivation, goal};
 ghost use Rattle.lists.specs.Convert.{derivation_steps};
 ghost use Rattle.book.specs.Meaning.{book_in};
 ghost use Rattle.table.specs.Table.{Tabled};
@@ -116,7 +116,7 @@ fn walk(
 ) -> reply::Answer
     requires tabled { Tabled book.now h table.now }
     requires values_len { length values.now ≡ get_or (book_in book.now h).arities relation 0 }
-    ensures { result ≡ told (counted (checkList (book_in book.now h) (goal relation values.now) list.now) (length (derivation_steps (book_in book.now h) list.now))) }
+    ensures { result ≡ told (counted (check_list (book_in book.now h) (goal relation values.now) list.now) (length (derivation_steps (book_in book.now h) list.now))) }
 {
     let mut i = 0;
     let mut last = h.count;

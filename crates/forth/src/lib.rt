@@ -5,7 +5,7 @@ ghost use Rattle.std.specs.Prelude.{◌≡◌, false, map, ◌++◌, ◌+◌, �
 ghost use Rattle.meaning.specs.Book.{place_window};
 ghost use Rattle.meaning.specs.State as state;
 ghost use Rattle.meaning.specs.State.{bit, low_row, low_rows, first};
-ghost use Rattle.lists.specs.Trace.{flat, sum, size as stateSize, state_numbers};
+ghost use Rattle.lists.specs.Trace.{flat, sum, size as state_size, state_numbers};
 ghost use Rattle.lists.specs.Convert.{as_trace};
 ghost use Rattle.lists.specs.Places.{trace_due};
 ghost use Rattle.book.specs.Read.{read};
@@ -64,7 +64,7 @@ fn write_state(
     at: usize,
 )
     requires book_value { read book.now ≡ Good h }
-    requires flags_in_bounds { at + stateSize (book_in book.now h) state.flags ≤ length room.old }
+    requires flags_in_bounds { at + state_size (book_in book.now h) state.flags ≤ length room.old }
     ensures { Put room.old room.new at (state_numbers (book_in book.now h) state.flags (state_of (book_in book.now h).arities flags.now rows.now)) }
 {
     let n = whole::wide(h.relations);
@@ -85,7 +85,7 @@ fn write_move(
     at: usize,
 )
     requires book_value { read book.now ≡ Good h }
-    requires n_in_bounds { (i + n ≤ length list.now) × (at + n + stateSize (book_in book.now h) state.flags ≤ length room.old) }
+    requires n_in_bounds { (i + n ≤ length list.now) × (at + n + state_size (book_in book.now h) state.flags ≤ length room.old) }
     ensures { Put room.old room.new at (take n (drop i list.now) ++ state_numbers (book_in book.now h) state.flags (state_of (book_in book.now h).arities flags.now rows.now)) }
 {
     steps::copy(list, i, n, room, at);

@@ -6,7 +6,8 @@ use Rattle.meaning.specs.Book.{Book}
 use Rattle.meaning.specs.State.{Control}
 use Rattle.reply.specs.Answer.{Answer, done, ok, need, and_then}
 use Rattle.reply.specs.Among.{has, all, Among, amongs, among-and, among-all, need-ok, and_split, and-join}
-use Rattle.reply.specs.Room.{wrote, Fair, written-wrote, written-done, written-front, written-fair}
+use Rattle.reply.specs.Room.{wrote, Fair, written-wrote}
+use Rattle.reply.proofs.Room.{written-done, written-front, written-fair}
 use Rattle.lists.specs.Derivation.{check_derivation}
 use Rattle.lists.specs.Trace.{check_trace}
 use Rattle.lists.specs.Convert.{as_trace, as_derivation, to_trace, to_derivation}

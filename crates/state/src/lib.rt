@@ -8,7 +8,7 @@ ghost use Rattle.meaning.specs.State.{bit};
 ghost use Rattle.lists.specs.Compare.{eq_z, first_diff, first_out};
 ghost use Rattle.lists.specs.Instance.{clause_at, step_at};
 ghost use Rattle.lists.specs.Derivation.{goal};
-ghost use Rattle.lists.specs.Trace.{flat, sum, cut, first_out_rows, size as stateSize, state_numbers, has, meets as bodyMet};
+ghost use Rattle.lists.specs.Trace.{flat, sum, cut, first_out_rows, size as state_size, state_numbers, has, meets as body_met};
 ghost use Rattle.book.specs.Read.{read};
 ghost use Rattle.book.specs.Meaning.{book_in};
 ghost use Rattle.book.specs.declared.Reading.TheVariants.{Good};
@@ -215,7 +215,7 @@ pub fn differs(
     at: usize,
 ) -> usize
     requires book_value { read book.now ≡ Good h }
-    requires flags_in_bounds { at + stateSize (book_in book.now h) state.flags ≤ length list.now }
+    requires flags_in_bounds { at + state_size (book_in book.now h) state.flags ≤ length list.now }
     ensures { result ≡ first_diff at (drop at list.now) (state_numbers (book_in book.now h) state.flags (state_of (book_in book.now h).arities flags.now rows.now)) }
 {
     let n = whole::wide(h.relations);
@@ -259,7 +259,7 @@ pub fn meets(
 ) -> bool
     requires tabled { Tabled book.now h table.now }
     requires k_lt_count { (k < h.count) × (from + (clause_at (book_in book.now h) k).vars ≤ length list.now) }
-    ensures { result ≡ bodyMet (book_in book.now h) state.flags (body (book_in book.now h) (step_at (book_in book.now h) k (drop from list.now))) (state_of (book_in book.now h).arities flags.now rows.now) }
+    ensures { result ≡ body_met (book_in book.now h) state.flags (body (book_in book.now h) (step_at (book_in book.now h) k (drop from list.now))) (state_of (book_in book.now h).arities flags.now rows.now) }
 {
     let r = table::cell(table, k, table::BODY);
     if r == 255 {

@@ -2,7 +2,7 @@
 #![tactic(auto)]
 
 ghost use Rattle.std.specs.Prelude.{◌+◌, ◌≤◌, ◌≡◌, length, take, drop};
-ghost use Rattle.lists.specs.Places.{after as afterStep};
+ghost use Rattle.lists.specs.Places.{after as after_step};
 ghost use Rattle.book.specs.Meaning.{book_in};
 ghost use Rattle.table.specs.Table.{Tabled};
 ghost use Rattle.steps.specs.Put.{Put};
@@ -19,7 +19,7 @@ pub fn after(
 ) -> usize
     requires tabled { Tabled book.now h table.now }
     requires here { Here book.now h list.now z i }
-    ensures { result ≡ afterStep (book_in book.now h) z list.now i }
+    ensures { result ≡ after_step (book_in book.now h) z list.now i }
 {
     let k = instance::number_at(list, i, h.count);
     i + 1 + table::cell(table, k, table::VARIABLES) + z

@@ -7,7 +7,8 @@ use lib.ListN.{length}
 use Rattle.reply.specs.declared.Answer as code
 use Rattle.reply.specs.declared.Answer.TheVariants.{Done, Refused}
 use Rattle.reply.specs.Answer.{ok, refuse, says}
-use Rattle.reply.specs.Room.{written, Leaves, written-wrote, written-needs}
+use Rattle.reply.specs.Room.{written, Leaves, written-wrote}
+use Rattle.reply.proofs.Room.{written-needs}
 use Rattle.put.specs.Room.{top, Wrote}
 use Rattle.put.proofs.Laws.{paste-out, paste-front}
 
