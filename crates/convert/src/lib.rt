@@ -63,6 +63,9 @@ pub fn to_derivation(
 
 // ---- derivation to trace
 
+// How many numbers a trace may have.
+const MOST: usize = 1000000;
+
 // 20, 9, or the trace of an accepted derivation
 fn traced(
     book: &[u8],
@@ -79,7 +82,7 @@ fn traced(
 {
     let size = state::size(book, h);
     let all = size + list.len() + steps * size;
-    if 1000000 < all {
+    if MOST < all {
         return reply::refuse(20, all);
     }
     if room.len() < all {

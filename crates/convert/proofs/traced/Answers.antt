@@ -17,15 +17,15 @@ overflow_mul-all c = record { fits = omega (arith, long-small c.requires.long c.
 pub overflow_add-all-2 : goal.overflow_add-all-2
 overflow_add-all-2 c = record { fits = omega (arith, long-small c.requires.long c.size-size.ensures.small) }
 
-pub returns-then-all-gt1000000 : goal.returns-then-all-gt1000000
-returns-then-all-gt1000000 c =
+pub returns-then-all-gt-MOST : goal.returns-then-all-gt-MOST
+returns-then-all-gt-MOST c =
     let a = c.args in
-    rw c.refuse.ensures (replies-long (as_trace (book_in a.book.now a.h) flags a.list.now) a.room.now _ (long-is c.requires.long c.size-size.ensures.is) c.if-all-gt1000000.true)
+    rw c.refuse.ensures (replies-long (as_trace (book_in a.book.now a.h) flags a.list.now) a.room.now _ (long-is c.requires.long c.size-size.ensures.is) c.if-all-gt-MOST.true)
 
 pub returns-then-room-all : goal.returns-then-room-all
 returns-then-room-all c =
     let a = c.args in
-    rw c.refuse-then-room-all.ensures (replies-short (as_trace (book_in a.book.now a.h) flags a.list.now) a.room.now _ (long-is c.requires.long c.size-size.ensures.is) c.if-all-gt1000000.false c.if-room-all.true)
+    rw c.refuse-then-room-all.ensures (replies-short (as_trace (book_in a.book.now a.h) flags a.list.now) a.room.now _ (long-is c.requires.long c.size-size.ensures.is) c.if-all-gt-MOST.false c.if-room-all.true)
 
 pub write-requires : goal.write-requires
 write-requires c =
@@ -35,4 +35,4 @@ write-requires c =
 pub returns : goal.returns
 returns c =
     let a = c.args in
-    replies-put (as_trace (book_in a.book.now a.h) flags a.list.now) a.room.now _ (long-is c.requires.long c.size-size.ensures.is) _ c.if-all-gt1000000.false c.if-room-all.false c.write.ensures
+    replies-put (as_trace (book_in a.book.now a.h) flags a.list.now) a.room.now _ (long-is c.requires.long c.size-size.ensures.is) _ c.if-all-gt-MOST.false c.if-room-all.false c.write.ensures
