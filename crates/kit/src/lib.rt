@@ -1,4 +1,4 @@
-// The functions exported to C and Rust: each is one call of the libraries, its answer told in document 01's numbers.
+// What C and Rust call, by the names that kit_c exports: each is one call of the libraries, its answer told in document 01's numbers.
 #![tactic(auto)]
 
 ghost use Rattle.std.specs.Prelude.{◌≡◌};
@@ -24,16 +24,14 @@ fn answered(a: reply::Answer, place: &mut u64) -> u32
 }
 
 // Reads a book.
-#[unsafe(no_mangle)]
-pub extern "C" fn ruahmitz_book(book: &[u8], place: &mut u64) -> u32
+pub fn ruahmitz_book(book: &[u8], place: &mut u64) -> u32
     ensures { ReadsBook book.now result place.new }
 {
     answered(book::refused_by(book::read_book(book)), place)
 }
 
 // The constraint of a numbered clause: its length is returned, and where it starts is written.
-#[unsafe(no_mangle)]
-pub extern "C" fn ruahmitz_constraint(book: &[u8], clause: u64, start: &mut u64) -> usize
+pub fn ruahmitz_constraint(book: &[u8], clause: u64, start: &mut u64) -> usize
     ensures { Hands book.now clause result start.new }
 {
     let p = book::constraint_span(book, clause as usize);
@@ -42,8 +40,7 @@ pub extern "C" fn ruahmitz_constraint(book: &[u8], clause: u64, start: &mut u64)
 }
 
 // Whether a list is a derivation of the goal.
-#[unsafe(no_mangle)]
-pub extern "C" fn ruahmitz_derivation(
+pub fn ruahmitz_derivation(
     book: &[u8],
     list: &[i32],
     relation: u64,
@@ -59,8 +56,7 @@ pub extern "C" fn ruahmitz_derivation(
 }
 
 // Whether a list is a trace that reaches the goal.
-#[unsafe(no_mangle)]
-pub extern "C" fn ruahmitz_trace(
+pub fn ruahmitz_trace(
     book: &[u8],
     list: &[i32],
     relation: u64,
@@ -73,8 +69,7 @@ pub extern "C" fn ruahmitz_trace(
 }
 
 // Writes a derivation's trace into the room.
-#[unsafe(no_mangle)]
-pub extern "C" fn ruahmitz_to_trace(
+pub fn ruahmitz_to_trace(
     book: &[u8],
     list: &[i32],
     relation: u64,
@@ -91,8 +86,7 @@ pub extern "C" fn ruahmitz_to_trace(
 }
 
 // Writes a trace's derivation into the room.
-#[unsafe(no_mangle)]
-pub extern "C" fn ruahmitz_to_derivation(
+pub fn ruahmitz_to_derivation(
     book: &[u8],
     list: &[i32],
     relation: u64,
@@ -109,16 +103,14 @@ pub extern "C" fn ruahmitz_to_derivation(
 }
 
 // Prints the transition system into the room.
-#[unsafe(no_mangle)]
-pub extern "C" fn ruahmitz_text(book: &[u8], room: &mut [u8], place: &mut u64) -> u32
+pub fn ruahmitz_text(book: &[u8], room: &mut [u8], place: &mut u64) -> u32
     ensures { PrintsText book.now room.old result place.new room.new }
 {
     answered(text::print(book, room), place)
 }
 
 // Whether the model excludes the query.
-#[unsafe(no_mangle)]
-pub extern "C" fn ruahmitz_model(
+pub fn ruahmitz_model(
     book: &[u8],
     model: &[u8],
     place: &mut u64,
