@@ -1,6 +1,6 @@
 /* How much stack each call takes. The eight calls are made in a thread whose stack was painted before; what is no longer paint was used.
  *
- *   rt staticlib kit
+ *   tools/build library
  *   cc -std=c11 -O1 -Wall -Wextra -Werror -pthread -I include tests/stack.c target/staticlib/libkit.a -o target/stack && target/stack
  *
  * The inputs are as demanding as a book allows: 16 relations, clauses of 16 variables with constraints of the greatest depth and numbers

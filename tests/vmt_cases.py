@@ -1,9 +1,9 @@
 """Runs the printing program on every book of tests/text_cases.py, and on inputs that are too long.
 
-  rt check vmt && python3 tests/vmt_cases.py
+  tools/build vmt && python3 tests/vmt_cases.py
 
 What the program must write is worked out by tests/printer.py alone: the text, or one line
-'refused N at P'. The program is target/bin/vmt, which `rt check` and `rt ci` leave there.
+'refused N at P'. The program is target/bin/vmt, which `tools/build vmt` leaves there.
 """
 import pathlib
 import subprocess
@@ -37,7 +37,7 @@ def inputs():
 
 def main():
     if not PROGRAM.exists():
-        print(f'failed: there is no {PROGRAM}: run rt check vmt')
+        print(f'failed: there is no {PROGRAM}: run tools/build vmt')
         print('0 passed, 1 failed')
         return 1
     passed = failed = 0

@@ -1,7 +1,7 @@
 /* A remapping slot that still names the core a vCPU has left, checked from C. Book, list and model are those of examples/remap/, which
  * say what each byte is. One line for each call; the exit status is 0 only where every answer is the one expected.
  *
- *   rt staticlib kit        # writes target/staticlib/libkit.a
+ *   tools/build library     # writes target/staticlib/libkit.a
  *   cc -std=c11 -Wall -Wextra -Werror -I include examples/c/remap.c target/staticlib/libkit.a -o target/remap && target/remap
  */
 #include <inttypes.h>

@@ -1,4 +1,4 @@
-//! Links the archive that `rt staticlib kit` writes.
+//! Links the archive that `tools/build library` writes.
 use std::path::Path;
 
 fn main() {
@@ -6,7 +6,7 @@ fn main() {
     let archive = folder.join("libkit.a");
     println!("cargo:rerun-if-changed={}", archive.display());
     if !archive.exists() {
-        panic!("the proved library is not there: run `rt staticlib kit` in the project's root first");
+        panic!("the proved library is not there: run `tools/build library` in the project's root first");
     }
     println!("cargo:rustc-link-search=native={}", folder.display());
     println!("cargo:rustc-link-lib=static=kit");

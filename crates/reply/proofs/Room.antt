@@ -1,5 +1,5 @@
 -- What a call writes into a lent room, and what it leaves there where the room is too short.
-use Rattle.std.specs.Prelude.{ℕ, ◌≤◌, ◌<◌, ◌≡◌, Bool, List, ◌++◌, take, drop}
+use Rattle.std.specs.Prelude.{ℕ, ◌≤◌, ◌<◌, ◌≡◌, Bool, List, take, drop}
 use Rattle.std.proofs.Common.{ap, ◌∙◌}
 use Rattle.std.proofs.Math.Path.{refl, sym}
 use Rattle.std.proofs.Math.Bool.{true, false}
@@ -9,7 +9,7 @@ use Rattle.std.proofs.Math.Dec.{leb}
 use borrow.Author.Tests.{leb-true, leb-false, lt-leb}
 use Rattle.reply.specs.Answer.{Answer, done, refused}
 use Rattle.reply.specs.Among.{refused-not}
-use Rattle.reply.specs.Room.{Due, kept, wrote, written, written-wrote, Fair, kept-fair, wrote-fair}
+use Rattle.reply.specs.Room.{Due, kept, written, written-wrote, Fair, kept-fair, wrote-fair}
 
 module _ {A : Type 0} (t d : List A) where
   pub written-needs : (n : ℕ) → length d < length t → written (done n) t d ≡ kept d 9 (length t)

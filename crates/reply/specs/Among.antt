@@ -2,7 +2,6 @@
 use Rattle.std.specs.Prelude.{ℕ, ◌≡◌, refl, ◌↔◌, Bool, true, false, List, [], ◌∷◌, ◌++◌, T, eqb}
 use Rattle.std.proofs.Common.{arith, sym, ap, ◌∙◌, eqb→eq}
 use Rattle.reply.specs.declared.Refusal.{Refusal}
-use Rattle.reply.specs.declared.Answer as code
 use Rattle.reply.specs.declared.Answer.TheVariants.{Done, Refused}
 use Rattle.reply.specs.Answer.{Answer, done, refused, ok, number, need, and_then, refuse, told}
 

@@ -1,8 +1,8 @@
 -- Little-endian numbers of two and of four bytes, unsigned and signed: out of a list of bytes, and as bytes.
-use Rattle.std.specs.Prelude.{ℕ, suc, ◌+◌, ◌-◌, ◌*◌, ◌/◌, ◌%◌, ◌^◌, ◌≤◌, ◌<◌, ◌≡◌, refl, List, [], ◌∷◌, ◌++◌, length, get_or, take, ℤ}
-use Rattle.std.proofs.Common.{mod-lt, mod-eq_of_lt, div-add-mod', div-lt_iff_lt-mul, zero-add, arith, sym, ap, ◌∙◌, length-take, get_or-take, to_z, of_z}
+use Rattle.std.specs.Prelude.{ℕ, ◌+◌, ◌*◌, ◌/◌, ◌%◌, ◌<◌, ◌≡◌, List, [], ◌∷◌, ◌++◌, length, get_or, take, ℤ}
+use Rattle.std.proofs.Common.{mod-lt, mod-eq_of_lt, div-add-mod', div-lt_iff_lt-mul, zero-add, arith, ap, ◌∙◌, length-take, get_or-take, to_z, of_z}
 use Rattle.std.proofs.Math.Nat.{div-eq_of_lt, add-mul-mod_self_right, add-mul-div_right}
-use Rattle.std.specs.Int.{Width, w16, w32}
+use Rattle.std.specs.Int.{w16, w32}
 
 -- the number that starts at byte p
 unfoldable pub u16_at : List ℕ → ℕ → ℕ

@@ -1,4 +1,3 @@
-use Rattle.std.proofs.Common.{rules}
 use Rattle.whole.specs.Bytes.{u32_at}
 use Rattle.whole.proofs.u32_at.Goals as goal
 
