@@ -9,7 +9,7 @@ use Rattle.std.proofs.Math.Seq.{get_or-take, length-take-le}
 use Rattle.std.proofs.lemmas.Bool.{eqb-false}
 use Rattle.cursor.specs.declared.Cursor.{Cursor}
 use Rattle.cursor.specs.declared.Step.TheVariants.{Moved}
-use Rattle.cursor.specs.Steps.{pick, value_then}
+use Rattle.cursor.specs.Steps.{value_then}
 use Rattle.cursor.specs.Inverse.{pick-by, pick-then, byte-went, step_went, no_step, at_of, byte-read}
 use Rattle.book.specs.declared.Header.{Header}
 use Rattle.book.specs.declared.Reading.TheVariants.{Good}

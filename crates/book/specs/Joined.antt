@@ -1,18 +1,18 @@
 -- The joining law: in an accepted book, reading the record where the index says never refuses, and gives the meaning's clause.
 use Rattle.std.specs.Prelude.{ℕ, zero, suc, ◌+◌, ◌*◌, ◌<◌, ◌≡◌, refl, List, length, get_or, take}
-use Rattle.std.proofs.Common.{arith, sym, ◌∙◌, eqb-true}
+use Rattle.std.proofs.Common.{arith, ◌∙◌, eqb-true}
 use Rattle.std.proofs.Math.Path.{ap}
 use Rattle.whole.specs.Bytes.{u16_at}
 use Rattle.meaning.specs.Book as meant
 use Rattle.cursor.specs.declared.Cursor.{Cursor}
 use Rattle.reply.specs.declared.Refusal.{Refusal}
-use Rattle.cursor.specs.declared.Step.TheVariants.{Moved, Refused}
+use Rattle.cursor.specs.declared.Step.TheVariants.{Moved}
 use Rattle.cursor.specs.declared.Clause.{Clause}
 use Rattle.cursor.specs.declared.ClauseStep.{ClauseStep}
 use Rattle.cursor.specs.declared.ClauseStep.TheVariants as clauses
 use Rattle.cursor.specs.Clause.{parts_at, clause_at}
 use Rattle.cursor.specs.Meaning.{clause_in, clause_or}
-use Rattle.cursor.specs.Inverse.{pick-then, step_went, clause-went, no_step, no-clause}
+use Rattle.cursor.specs.Inverse.{pick-then, step_went, clause-went, no_step}
 use Rattle.cursor.specs.Sound.{Sound, sound, parts-of}
 use Rattle.book.specs.declared.Header.{Header}
 use Rattle.book.specs.declared.Reading.{Reading}

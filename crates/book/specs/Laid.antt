@@ -1,16 +1,16 @@
 -- Where the parts of an accepted book's record stand: each follows from the bytes before it, with nothing left to judge.
-use Rattle.std.specs.Prelude.{ℕ, ◌+◌, ◌*◌, ◌<◌, ◌≤◌, ◌≡◌, refl, ◌⊎◌, List, length, get_or, take, eqb}
+use Rattle.std.specs.Prelude.{ℕ, ◌+◌, ◌<◌, ◌≤◌, ◌≡◌, refl, List, length, get_or, take, eqb}
 use Rattle.std.proofs.Common.{arith, sym, ap, ◌∙◌, inl, inr, get_or-take, eq-eqb, ne_eqb}
 use Rattle.whole.specs.Bytes.{front-byte}
 use Rattle.cursor.specs.declared.Cursor.{Cursor}
 use Rattle.cursor.specs.declared.Clause.{Clause}
 use Rattle.cursor.specs.Steps.{pick}
-use Rattle.cursor.specs.Inverse.{IsFact, IsBody, IsParts, at_of, clause-read}
+use Rattle.cursor.specs.Inverse.{IsBody, IsParts, at_of, clause-read}
 use Rattle.book.specs.declared.Header.{Header}
 use Rattle.book.specs.declared.Reading.TheVariants as readings
 use Rattle.book.specs.Read.{read, entry_at}
-use Rattle.book.specs.Joined.{IsRead, Held, held, record-read}
-use Rattle.book.specs.Trailer.{Trailed, read-trailed}
+use Rattle.book.specs.Joined.{Held, held, record-read}
+use Rattle.book.specs.Trailer.{read-trailed}
 
 -- past the arguments of the relation r, whose number stands at p; 255 has none
 unfoldable pub past_arguments : List ℕ → ℕ → ℕ → ℕ

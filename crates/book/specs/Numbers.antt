@@ -17,7 +17,7 @@ use Rattle.cursor.specs.declared.NodeStep.TheVariants as node-steps
 use Rattle.cursor.specs.declared.Clause.{Clause}
 use Rattle.cursor.specs.declared.ClauseStep.{ClauseStep}
 use Rattle.cursor.specs.declared.ClauseStep.TheVariants as clauses
-use Rattle.cursor.specs.Steps.{pick, value_then, byte_then, number_then, step_then, node_then, byte_at, below_at, relation_at, variable_at, skip_at, number_at, kind_at, sum_at, remains_at, node_at}
+use Rattle.cursor.specs.Steps.{value_then, byte_then, number_then, step_then, node_then, byte_at, below_at, relation_at, variable_at, skip_at, number_at, kind_at, sum_at, remains_at, node_at}
 use Rattle.cursor.specs.Walk.{follow, constraint_at}
 use Rattle.cursor.specs.Clause.{clause_then, arguments_at, fact_at, body_at, parts_at, clause_at}
 use Rattle.cursor.specs.Inverse.{pick-by, kinds-by}

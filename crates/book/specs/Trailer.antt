@@ -1,12 +1,11 @@
 -- What an accepted trailer tells: each field where the format's table has it, each rule kept.
-use Rattle.std.specs.Prelude.{ℕ, ◌+◌, ◌-◌, ◌*◌, ◌<◌, ◌≤◌, ◌≡◌, refl, true, false, not, List, length, get_or, T, ◌≤ℤ◌}
-use Rattle.std.proofs.Common.{arith, ltb-true, ltb-false, eqb-true}
+use Rattle.std.specs.Prelude.{ℕ, ◌+◌, ◌-◌, ◌*◌, ◌<◌, ◌≤◌, ◌≡◌, refl, not, List, length, get_or, T, ◌≤ℤ◌}
+use Rattle.std.proofs.Common.{ltb-true, ltb-false, eqb-true}
 use Rattle.std.specs.Int.Signed.{lt_z, lt_z_no}
 use Rattle.whole.specs.Bytes.{u16_at, i32_at}
 use Rattle.cursor.specs.Steps.{value_then}
 use Rattle.cursor.specs.Inverse.{pick-then, pick-else}
 use Rattle.book.specs.declared.Header.{Header}
-use Rattle.book.specs.declared.Reading.{Reading}
 use Rattle.book.specs.declared.Reading.TheVariants as readings
 use Rattle.book.specs.Read.{sized, headed, trailer, read}
 use Rattle.book.specs.Joined.{no-reading, passed}

@@ -1,5 +1,5 @@
 -- What reading a clause record answers. `s` is the book up to the index, `n` the number of relations.
-use Rattle.std.specs.Prelude.{ℕ, zero, suc, ◌+◌, List, get_or, eqb}
+use Rattle.std.specs.Prelude.{ℕ, zero, suc, List, get_or, eqb}
 use Rattle.cursor.specs.declared.Cursor.{Cursor}
 use Rattle.reply.specs.declared.Refusal.{Refusal}
 use Rattle.cursor.specs.declared.Byte.{Byte}

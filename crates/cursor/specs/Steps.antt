@@ -1,5 +1,5 @@
 -- What each reading step of a record answers. A step takes the bytes up to the index and a cursor; a byte or number that would pass their end is refusal 8 there.
-use Rattle.std.specs.Prelude.{ℕ, ◌+◌, ◌-◌, ◌*◌, List, [], Bool, true, false, length, get_or, ltb, leb, eqb}
+use Rattle.std.specs.Prelude.{ℕ, ◌+◌, ◌-◌, ◌*◌, List, Bool, true, false, length, get_or, ltb, leb, eqb}
 use Rattle.whole.specs.Bytes.{u16_at}
 use Rattle.cursor.specs.declared.Cursor.{Cursor}
 use Rattle.reply.specs.declared.Refusal.{Refusal}
@@ -10,10 +10,7 @@ use Rattle.cursor.specs.declared.Number as Number
 use Rattle.cursor.specs.declared.Number.TheVariants as numbers
 use Rattle.cursor.specs.declared.Step.{Step}
 use Rattle.cursor.specs.declared.Step.TheVariants as steps
-use Rattle.cursor.specs.declared.Atom.{Atom}
-use Rattle.cursor.specs.declared.Comparison.{Comparison}
 use Rattle.cursor.specs.declared.Comparison.TheVariants.{AtMost, Equal}
-use Rattle.cursor.specs.declared.Remains.{Remains}
 use Rattle.cursor.specs.declared.Node.{Node}
 use Rattle.cursor.specs.declared.Node.TheVariants as nodes
 use Rattle.cursor.specs.declared.NodeStep.{NodeStep}

@@ -2,7 +2,7 @@
 use Rattle.std.specs.Prelude.{◌≡◌, ◌≢◌, Bool, true, false, List, [], ◌∷◌, map, ℕ, zero, suc, length, get_or, set, replicate, ℤ, pos, T}
 use Rattle.std.proofs.Math.Option.{Option, none, some}
 use Rattle.meaning.specs.Book.{Book, Fact, Step, Window, Within, place_window, Instance, head, body}
-use Rattle.meaning.specs.System.{System, Enabled}
+use Rattle.meaning.specs.System.{System}
 
 -- The part of a state beside the places: how it starts, where a clause without body may step, whether relation r is held, and what putting r in makes of it;
 -- its numbers in a list, and how many there are for R relations.
