@@ -45,9 +45,10 @@ use Rattle.derivation.specs.Exact as derivations
 use Rattle.trace.specs.Answer as trace
 use Rattle.trace.specs.Exact as traces
 use Rattle.models.specs.Answer.{Reply, number_of, plain, examine, model_answer}
-use Rattle.models.specs.Exact.{model_numbers, among-examine}
-use Rattle.models.specs.Main as models
-use Rattle.models.specs.Due as dues
+use Rattle.models.specs.Exact.{model_numbers}
+use Rattle.models.proofs.Exact.{among-examine}
+use Rattle.models.proofs.Main as models
+use Rattle.models.proofs.Due as dues
 use Rattle.model.specs.declared.Reply as code
 use Rattle.model.specs.Reply as replies
 use Rattle.model.specs.Exact as model

@@ -24,7 +24,7 @@ use Rattle.book.specs.Windows.{windows_of}
 use Rattle.models.specs.Assignments.{assignments, count}
 use Rattle.models.specs.Order.{assignments-count}
 use Rattle.models.specs.Walk.{step, tries, tries_from, walk, sum, total, Finding, clean, broken, find, find_then}
-use Rattle.models.specs.Found.{sum-append, find-clean, find-append}
+use Rattle.models.proofs.Found.{sum-append, find-clean, find-append}
 use Rattle.models.specs.Answer.{Reply, plain, outcome}
 use Rattle.parts.specs.declared.Task.{Task}
 use Rattle.parts.specs.Task.{Taken, Started, Tasked, rules_in}

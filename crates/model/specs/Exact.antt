@@ -12,8 +12,10 @@ use Rattle.book.specs.Numbers.{refused-number}
 use Rattle.models.specs.Walk.{total}
 use Rattle.models.specs.Answer.{number_of, plain, examine, model_answer}
 use Rattle.models.specs.Written.{Fit, holds-exactly}
-use Rattle.models.specs.Exact.{answered, accepted-count, FirstBroken, broken_at, broken-exactly}
-use Rattle.models.specs.Main.{Accepted, accepted}
+use Rattle.models.specs.Exact.{answered, FirstBroken, broken_at}
+use Rattle.models.proofs.Exact.{accepted-count, broken-exactly}
+use Rattle.models.specs.Main.{Accepted}
+use Rattle.models.proofs.Main.{accepted}
 use Rattle.model.specs.declared.Reply as code
 use Rattle.model.specs.Reply.{told, Replies}
 

@@ -4,7 +4,6 @@ pub mod Walk
 pub mod Answer
 pub mod Gaps
 pub mod Order
-pub mod Found
 pub mod Exact
 pub mod Written
 pub mod Due

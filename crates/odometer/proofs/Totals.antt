@@ -18,7 +18,7 @@ use Rattle.book.specs.Joined.{Held, count-is}
 use Rattle.book.specs.Windows.{windows_of}
 use Rattle.models.specs.Assignments.{count}
 use Rattle.models.specs.Walk.{sum, total}
-use Rattle.models.specs.Found.{sum-append}
+use Rattle.models.proofs.Found.{sum-append}
 use Rattle.models.specs.Cap.{cap, cap-small, cap-plus}
 
 pub total-none : (b : Book) → 0 ≡ cap (sum b [])
