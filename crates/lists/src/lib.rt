@@ -1,2 +1,2 @@
-// Derivations and traces as lists of numbers, and what their checks answer: definitions and theorems in specs/, and no code.
+// Derivations and traces as lists of numbers, and what their checks answer: definitions in specs/, theorems there and in proofs/, and no code.
 #![tactic(auto)]

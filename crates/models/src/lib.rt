@@ -1,2 +1,2 @@
-// What the model check answers, and why it is right: definitions and theorems in specs/, and no code.
+// What the model check answers, and why it is right: definitions in specs/, theorems there and in proofs/, and no code.
 #![tactic(auto)]
