@@ -15,7 +15,8 @@ use Rattle.meaning.specs.State.{Control}
 use Rattle.lists.specs.Trace.{size}
 use Rattle.lists.specs.Convert.{as_derivation}
 use Rattle.lists.specs.Places.{clause_here, step_here, start, start_first, start-next, numbers-here}
-use Rattle.lists.specs.Back.{relation_of, trace_start, coming, coming-none, coming-first, coming-all, coming-wrote, coming-other, coming-length}
+use Rattle.lists.specs.Back.{relation_of, trace_start, coming, coming-none, coming-first}
+use Rattle.lists.proofs.Back.{coming-all, coming-wrote, coming-other, coming-length}
 use Rattle.cursor.specs.Steps.{pick}
 use Rattle.book.specs.declared.Header.{Header}
 use Rattle.book.specs.Meaning.{book_in}

@@ -26,8 +26,8 @@ use Rattle.lists.specs.Walker.{walk}
 use Rattle.lists.specs.Convert.{steps_walk, derivation_steps, as_trace, as_derivation, to_trace, to_derivation}
 use Rattle.lists.specs.Among.{among-derivation, among-trace}
 use Rattle.lists.specs.Laws.{asked-exact}
-use Rattle.lists.specs.Places.{step-in-derivation}
-use Rattle.lists.specs.Back.{step-in-trace}
+use Rattle.lists.proofs.Places.{step-in-derivation}
+use Rattle.lists.proofs.Back.{step-in-trace}
 use Rattle.lists.specs.Converted.{as_trace-length}
 use Rattle.book.specs.declared.Header.{Header}
 use Rattle.book.specs.declared.Reading.TheVariants as readings

@@ -24,8 +24,10 @@ use Rattle.lists.specs.Instance.{clause_at, step_at, judge}
 use Rattle.lists.specs.Derivation.{goal, judge_goal, judge_step, check, check_derivation}
 use Rattle.lists.specs.Among.{among-derivation}
 use Rattle.lists.specs.Convert.{derivation_steps}
-use Rattle.lists.specs.Due.{due, due_all, due-none, due-more}
-use Rattle.lists.specs.Places.{count_due, count-due-all, count-due-none, count-due-more}
+use Rattle.lists.specs.Due.{due, due_all, due-none}
+use Rattle.lists.proofs.Due.{due-more}
+use Rattle.lists.specs.Places.{count_due, count-due-all, count-due-none}
+use Rattle.lists.proofs.Places.{count-due-more}
 use Rattle.lists.specs.Enabled.{refusal_place, enabled-number, enabled-zero, enabled-refused}
 use Rattle.lists.specs.Laws.{enabled-exact}
 use Rattle.book.specs.declared.Header.{Header}

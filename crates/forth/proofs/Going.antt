@@ -12,7 +12,8 @@ use Rattle.meaning.specs.State.{Control, State, flags, write, low_rows, first}
 use Rattle.lists.specs.Trace.{size, state_numbers}
 use Rattle.lists.specs.Instance.{clause_at, step_at}
 use Rattle.lists.specs.Convert.{as_trace}
-use Rattle.lists.specs.Places.{clause_here, step_here, after, start, start_first, start-next, numbers-here, trace_due, trace-due-all, trace-due-none, trace-due-more}
+use Rattle.lists.specs.Places.{clause_here, step_here, after, start, start_first, start-next, numbers-here, trace_due, trace-due-all, trace-due-none}
+use Rattle.lists.proofs.Places.{trace-due-more}
 use Rattle.book.specs.declared.Header.{Header}
 use Rattle.book.specs.declared.Reading.TheVariants.{Good}
 use Rattle.book.specs.Read.{read}

@@ -1,18 +1,16 @@
 -- The walks of a derivation, of a trace and of a list's steps, from a place of the list on.
-use Rattle.std.specs.Prelude.{◌≡◌, List, [], ◌∷◌, ℕ, ◌+◌, ◌≤◌, ◌<◌, length, get_or, drop, ℤ, pos}
+use Rattle.std.specs.Prelude.{◌≡◌, List, [], ℕ, ◌≤◌, length, ℤ}
 use Rattle.std.proofs.Math.Path.{ap}
-use Rattle.std.proofs.Common.{◌∙◌, arith}
+use Rattle.std.proofs.Common.{arith}
 use Rattle.std.proofs.Math.Option.{Option, none, some}
-use Rattle.std.proofs.Math.Nat.{add-zero}
-use Rattle.meaning.specs.Book.{Book, Fact, Step, head}
-use Rattle.meaning.specs.State.{Control, State, write}
+use Rattle.meaning.specs.Book.{Book, Fact, Step}
+use Rattle.meaning.specs.State.{Control, State}
 use Rattle.reply.specs.Answer.{Answer, ok, need, and_then}
 use Rattle.lists.specs.Compare.{same}
-use Rattle.lists.specs.Instance.{clause_number, clause_at, step_at}
-use Rattle.lists.specs.Derivation.{judge_step, derivation_walk, check}
-use Rattle.lists.specs.Trace.{size, has, judge_move, trace_walk, first_of, judge_first, check_walk}
+use Rattle.lists.specs.Derivation.{derivation_walk, check}
+use Rattle.lists.specs.Trace.{size, has, trace_walk, first_of, judge_first, check_walk}
 use Rattle.lists.specs.Convert.{steps_walk, derivation_steps, trace_steps}
-use Rattle.lists.specs.Walked.{step_here, after, walked, walked_all, walked_none, walked_more}
+use Rattle.lists.specs.Walked.{walked, walked_all, walked_none}
 
 -- ---- derivations
 
@@ -29,13 +27,6 @@ module _ (b : Book) (f : Fact) where
   unfolding due
   due-none = walked_none b (derivation_walk b f)
 
-  pub due-more : (l : List ℤ) (i : ℕ) (o : Option Fact) → i < length l →
-      let k = clause_number b (get_or l i (pos 0)) in
-      let r = drop (i + 1) l in
-      due l i o ≡ and_then (judge_step b k r i o) (due l (i + 1 + (clause_at b k).vars) (some (head b (step_at b k r))))
-  unfolding due
-  due-more l i o h = walked_more b (derivation_walk b f) l i o h ∙ rw add-zero
-
 -- ---- traces
 
 module _ (b : Book) (C : Control) (f : Fact) where
@@ -51,13 +42,6 @@ module _ (b : Book) (C : Control) (f : Fact) where
   unfolding walk_due
   walk-due-none = walked_none b (trace_walk b C f)
 
-  pub walk-due-more : (l : List ℤ) (i : ℕ) (σ : State C) → i < length l →
-      let k = clause_number b (get_or l i (pos 0)) in
-      let r = drop (i + 1) l in
-      walk_due l i σ ≡ and_then (judge_move b C k r i σ) (walk_due l (i + 1 + (clause_at b k).vars + size b C) (write C (head b (step_at b k r)) σ))
-  unfolding walk_due
-  walk-due-more = walked_more b (trace_walk b C f)
-
 -- ---- the steps that a list tells
 
 module _ (b : Book) (gap : ℕ) where
@@ -68,10 +52,6 @@ module _ (b : Book) (gap : ℕ) where
   pub steps-due-none : (l : List ℤ) (i : ℕ) → length l ≤ i → steps_due l i ≡ []
   unfolding steps_due
   steps-due-none l i h = walked_none b (steps_walk b gap) l i tt h
-
-  pub steps-due-more : (l : List ℤ) (i : ℕ) → i < length l → steps_due l i ≡ step_here b l i ∷ steps_due l (after b gap l i)
-  unfolding steps_due
-  steps-due-more l i h = walked_more b (steps_walk b gap) l i tt h
 
 pub derivation-steps-due : (b : Book) (l : List ℤ) → derivation_steps b l ≡ steps_due b 0 l 0
 unfolding steps_due derivation_steps

@@ -4,7 +4,7 @@ use Rattle.std.proofs.Math.Path.{refl}
 use Rattle.std.proofs.Common.{ap, not-suc-le-zero, arith, length-take-le, take_at}
 use Rattle.std.proofs.Math.Option.{Option}
 use mathlib.Core.List.{List, [], ◌∷◌, ◌++◌, map}
-use Prim.Native.Nat.{ℕ, zero, suc, ◌+◌, ◌≤◌, ◌<◌}
+use Prim.Native.Nat.{ℕ, zero, suc, ◌+◌, ◌≤◌}
 use Rattle.std.proofs.Math.ListN.{length, drop, length-append, length-drop, take-append-drop}
 use Rattle.std.proofs.Math.Seq.{drop_at}
 use Rattle.meaning.specs.Book.{Book, Fact, Step, Instance, body, clause_of}
@@ -14,7 +14,7 @@ use Rattle.lists.specs.Walker.{Walker, walk}
 use Rattle.lists.specs.Trace.{sum}
 use Rattle.lists.specs.Convert.{steps_walk}
 use Rattle.lists.specs.Laws.{step-at, after-step}
-use Rattle.lists.specs.Walked.{clause-number, step_here, start, start-next, walked, walked_more, walked_at}
+use Rattle.lists.specs.Walked.{clause-number}
 
 -- a good step at the front of a list: an instance that stands there in full, its body met, and in the gap after it the numbers shown
 pub record Judged (b : Book) (gap k : ℕ) (l : List ℤ) (Met : Option Fact → Type 0) (shown : Step → List ℤ) : Type 0 where
@@ -101,12 +101,3 @@ module _ (b : Book) (W : Walker Answer) (S : Sense b W) where
         record { one = rw here c.0; long = omega arith; met = rw here c.1; next = rw (here, after) (take_at x rest W.gap c.2) },
         rw (here, after, drop_at x rest W.gap c.2) (accepts-every m _ (W.next s o) d (omega arith) c.3),
       )
-
-  -- each step of an accepted list is an instance and stands there in full, with its gap
-  pub step-in-walk : (l : List ℤ) (i : ℕ) (o : W.Memory) → walked b W l i o ≡ ok → (j : ℕ) → start b W.gap l i j < length l
-      → Instance b (step_here b l (start b W.gap l i j)) × (start b W.gap l i (j + 1) ≤ length l)
-  step-in-walk l i o e j h =
-      let n = start b W.gap l i j in
-      let (p, q) = walked_at b W (λ a. a ≡ ok) (λ k l i o a e. ((S.step-says k l i o a).0 e).1) l i o e j h in
-      let (t, more) = (S.step-says _ _ _ _ _).0 (rw (walked_more b W l n p h) at q) in
-      (t.one, omega (arith, t.long, length-drop (n + 1) l, start-next b W.gap l i j))

@@ -6,7 +6,6 @@ use Prim.Native.Nat.{ℕ, zero, suc, ◌+◌, ◌-◌, ◌≤◌, ◌<◌}
 use Rattle.std.proofs.Common.{not-suc-le-zero, add-one, drop-cons}
 use native.Mathlib.Omega.{arith}
 use Rattle.std.proofs.Math.ListN.{length, drop, length-drop}
-use Rattle.std.proofs.Math.Seq.{drop-drop}
 use Rattle.meaning.specs.Book.{Book, Clause, Step, Instance}
 use Rattle.lists.specs.Instance.{clause_number, clause_at, step_at}
 use Rattle.lists.specs.Walker.{Walker, walk}
@@ -25,7 +24,7 @@ abbrev pub step_here : Book → List ℤ → ℕ → Step
 step_here b l i = step_at b (clause_number b (get_or l i (pos 0))) (drop (i + 1) l)
 
 -- what is left from place i on, where one is there
-from : (l : List ℤ) (i : ℕ) → i < length l → drop i l ≡ get_or l i (pos 0) ∷ drop (i + 1) l
+pub from : (l : List ℤ) (i : ℕ) → i < length l → drop i l ≡ get_or l i (pos 0) ∷ drop (i + 1) l
 from l i h = rw add-one (drop-cons l i (pos 0) h)
 
 -- an instance's numbers are those that stand there
@@ -58,7 +57,7 @@ module _ (b : Book) (gap : ℕ) (l : List ℤ) where
 
 module _ (b : Book) {R : Type 0} (W : Walker R) where
   -- any count that is large enough gives the same
-  walk-count : (m n i : ℕ) (o : W.Memory) (l : List ℤ) → length l ≤ m → length l ≤ n → walk b W m i o l ≡ walk b W n i o l
+  pub walk-count : (m n i : ℕ) (o : W.Memory) (l : List ℤ) → length l ≤ m → length l ≤ n → walk b W m i o l ≡ walk b W n i o l
   unfolding walk
   walk-count zero zero i o l h g = refl
   walk-count zero (suc n) i o [] h g = refl
@@ -86,16 +85,6 @@ module _ (b : Book) {R : Type 0} (W : Walker R) where
       let z : length l - i ≡ 0 = omega arith in
       rw z
 
-  pub walked_more : (l : List ℤ) (i : ℕ) (o : W.Memory) → i < length l →
-      walked l i o ≡ W.step (clause_number b (get_or l i (pos 0))) (drop (i + 1) l) i o (walked l (after b W.gap l i) (W.next (step_here b l i) o))
-  unfolding walked walk
-  walked_more l i o h =
-      let r = drop (i + 1) l in
-      let n = after b W.gap l i in
-      let z : length l - i ≡ suc (length r) = rw length-drop (omega arith) in
-      rw (z, from l i h) (ap (W.step (clause_number b (get_or l i (pos 0))) r i o)
-      (simp drop-drop (walk-count (length r) (length l - n) n _ (drop n l) (simp length-drop (omega arith)) (simp length-drop (omega arith)))))
-
   module _ (P : R → Type 0) where
     -- what holds of each end, and before a step where it holds after it, holds of the walk
     pub walk-keeps : ((i : ℕ) (o : W.Memory) → P (W.ended i o)) → ((k : ℕ) (l : List ℤ) (i : ℕ) (o : W.Memory) (r : R) → P r → P (W.step k l i o r))
@@ -104,13 +93,3 @@ module _ (b : Book) {R : Type 0} (W : Walker R) where
     walk-keeps end more zero i o l = end i o
     walk-keeps end more (suc m) i o [] = end i o
     walk-keeps end more (suc m) i o (x ∷ l) = more _ l i o _ (walk-keeps end more m _ _ _)
-
-    -- what holds after a step where it holds before it, holds from each step on
-    pub walked_at : ((k : ℕ) (l : List ℤ) (i : ℕ) (o : W.Memory) (r : R) → P (W.step k l i o r) → P r) → (l : List ℤ) (i : ℕ) (o : W.Memory) → P (walked l i o)
-        → (j : ℕ) → start b W.gap l i j < length l → (p : W.Memory) × P (walked l (start b W.gap l i j) p)
-    unfolding start
-    walked_at rest l i o e zero h = (o, e)
-    walked_at rest l i o e (suc j) h =
-        let n : start b W.gap l i j < length l = omega arith in
-        let (p, q) = walked_at rest l i o e j n in
-        (_, rest _ _ _ _ _ (rw (walked_more l (start b W.gap l i j) p n) at q))

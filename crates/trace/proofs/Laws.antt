@@ -20,7 +20,8 @@ use Rattle.lists.specs.Instance.{clause_number, clause_at, step_at, judge}
 use Rattle.lists.specs.Trace.{size, state_numbers, has, meets, judge_move, first_of}
 use Rattle.lists.specs.Laws.{enabled-exact}
 use Rattle.lists.specs.Enabled.{refusal_place, enabled-number, enabled-zero, enabled-refused}
-use Rattle.lists.specs.Due.{walk_due, walk-due-none, walk-due-more}
+use Rattle.lists.specs.Due.{walk_due, walk-due-none}
+use Rattle.lists.proofs.Due.{walk-due-more}
 use Rattle.book.specs.declared.Header.{Header}
 use Rattle.book.specs.declared.Reading.TheVariants.{Good}
 use Rattle.book.specs.Read.{read}

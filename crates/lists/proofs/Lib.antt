@@ -1,0 +1,5 @@
+pub mod Walked
+pub mod Due
+pub mod Runs
+pub mod Places
+pub mod Back
