@@ -20,7 +20,7 @@ use Rattle.encode.specs.Encode.{spell, constraint_bytes, atom_bytes, body_bytes,
 use Rattle.encode.specs.Stands.{Bytes}
 use Rattle.encode.specs.Records.{head_start, rule_start, lay_of, Parts, clause-read}
 use Rattle.encode.specs.Index.{Rows}
-use Rattle.encode.specs.RoundTrip.{header_of, Holds, holds, front, rows, read-holds}
+use Rattle.encode.specs.RoundTrip.{header_of, holds, front, rows, read-holds}
 use Rattle.encode.specs.Exact.{accepted-is-written}
 use Rattle.encode.specs.Part.{part-written}
 

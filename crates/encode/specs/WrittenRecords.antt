@@ -1,8 +1,8 @@
 -- The arities, the records and the index that were read stand there, written.
-use Prim.Native.Nat.{ℕ, zero, suc, ◌+◌, ◌*◌, ◌≤◌, ◌<◌}
+use Prim.Native.Nat.{ℕ, zero, suc, ◌+◌, ◌*◌, ◌≤◌}
 use native.Mathlib.Omega.{arith}
-use Rattle.std.specs.Prelude.{◌≡◌, List, [], ◌∷◌, get_or, take}
-use Rattle.std.proofs.Common.{sym, ◌∙◌, get_or-take, leb-true, eqb-true}
+use Rattle.std.specs.Prelude.{◌≡◌, List, [], ◌∷◌, take}
+use Rattle.std.proofs.Common.{◌∙◌, get_or-take, eqb-true}
 use Rattle.std.proofs.Math.Path.{ap}
 use Rattle.std.proofs.Math.ListN.{length, length-take}
 use Rattle.std.proofs.Math.Seq.{length-take-le}
@@ -13,11 +13,10 @@ use Rattle.cursor.specs.declared.Cursor.{Cursor}
 use Rattle.cursor.specs.declared.Step.TheVariants.{Moved}
 use Rattle.cursor.specs.declared.Clause.{Clause}
 use Rattle.cursor.specs.declared.ClauseStep.TheVariants.{Got}
-use Rattle.cursor.specs.Steps.{value_then}
 use Rattle.cursor.specs.Clause.{clause_at}
 use Rattle.cursor.specs.Meaning.{clause_in, clause_or}
-use Rattle.cursor.specs.Inverse.{pick-then, byte-went, step_went, clause-went, no_step, at_of, byte-read}
-use Rattle.book.specs.Read.{top_arity, arity_at, arities_at, record_at, clauses_at}
+use Rattle.cursor.specs.Inverse.{pick-then, step_went, clause-went, no_step}
+use Rattle.book.specs.Read.{record_at, clauses_at}
 use Rattle.book.specs.Meaning.{up_to}
 use Rattle.encode.specs.Encode.{spell, clause_bytes, starts}
 use Rattle.encode.specs.Stands.{Stands, Bytes}

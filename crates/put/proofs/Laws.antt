@@ -13,7 +13,7 @@ use mir.Val.{hbits, to_z, of_z}
 use mir.Facts.{to_z-of_z}
 use lib.ListN.{length, set, drop, length-set, length-append}
 use lib.Seq.{set_out, sets, sets-eq}
-use Rattle.sexp.specs.Sexp.{Sexp, Sexps, ◌⧺◌, onto, spaced, items, lines_onto, lines, each}
+use Rattle.sexp.specs.Sexp.{Sexp, Sexps, ◌⧺◌, onto, spaced, lines_onto, each}
 use Rattle.sexp.specs.Split.{onto-split, spaced-split, spaced-and, lines_split, lines-and}
 use Rattle.put.specs.Room.{paste, sat, top, Wrote}
 use Rattle.put.specs.Number.{num}

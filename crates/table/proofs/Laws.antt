@@ -5,7 +5,6 @@ use native.Mathlib.Omega.{arith}
 use mathlib.Core.Path.{◌≡◌, refl, sym, ap, ◌∙◌}
 use mathlib.Core.Logic.{◌⊎◌, inl, inr}
 use mathlib.Core.List.{List, [], ◌∷◌}
-use mathlib.Core.Option.{Option, none, some}
 use lib.ListN.{length, get_or, take, drop, set}
 use lib.Seq.{get_or-take, get_or-set_same, get_or-set_other, length-take-le, take-take}
 use lib.Dec.{eqb}
@@ -14,8 +13,8 @@ use borrow.Author.Tests.{eqb-true, eqb-false, eq-eqb, ne_eqb}
 use Rattle.meaning.specs.Book as meant
 use Rattle.cursor.specs.Steps.{pick}
 use Rattle.cursor.specs.declared.Clause.{Clause}
-use Rattle.cursor.specs.Meaning.{atom_in, body_in, tree_in, clause_in}
-use Rattle.cursor.specs.Sound.{Arguments, Sound, tree-part}
+use Rattle.cursor.specs.Meaning.{atom_in, body_in, clause_in}
+use Rattle.cursor.specs.Sound.{Arguments, tree-part}
 use Rattle.truth.specs.Front.{front-is-tree, front-tree}
 use Rattle.book.specs.declared.Header.{Header}
 use Rattle.book.specs.declared.Reading.TheVariants.{Good}
@@ -24,7 +23,7 @@ use Rattle.book.specs.Meaning.{book_in}
 use Rattle.book.specs.Joined.{Held}
 use Rattle.book.specs.Trailer.{read-trailed}
 use Rattle.book.specs.Arities.{arity-is, arity-small}
-use Rattle.table.specs.Table.{seat_of, many_of, row_of, Fits, Seated, SeatedBody, Row, Tabled}
+use Rattle.table.specs.Table.{seat_of, many_of, row_of, Fits, Seated, SeatedBody, Row}
 
 -- a part that lies in the front of a list
 part-front : (s : List ℕ) (m p n : ℕ) → p + n ≤ m → take n (drop p (take m s)) ≡ take n (drop p s)

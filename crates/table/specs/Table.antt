@@ -1,5 +1,5 @@
 -- The table of an accepted book's clauses: what its rows hold, and what they say of the meaning's clauses.
-use Rattle.std.specs.Prelude.{ℕ, ◌+◌, ◌<◌, ◌≤◌, ◌≡◌, List, [], ◌∷◌, length, get_or, take, drop, eqb}
+use Rattle.std.specs.Prelude.{ℕ, ◌+◌, ◌<◌, ◌≤◌, ◌≡◌, List, [], ◌∷◌, get_or, take, drop, eqb}
 use Rattle.std.proofs.Math.Option.{Option, none, some}
 use Rattle.meaning.specs.Book.{Atom, none_such}
 use Rattle.cursor.specs.Steps.{pick}

@@ -1,7 +1,7 @@
 -- What stands in the front of a list stands in the whole of it, and is the same: a constraint, and an atom's arguments.
-use Prim.Native.Nat.{ℕ, zero, suc, ◌+◌, ◌*◌, ◌<◌, ◌≤◌}
-use Rattle.std.proofs.Common.{arith, sym, ap, ap₂, ◌∙◌, length-take, length-drop, take-suc, get_or-drop, lt-ltb, le-leb}
-use Rattle.std.specs.Prelude.{◌≡◌, List, length, get_or, take, drop}
+use Prim.Native.Nat.{ℕ, zero, suc, ◌+◌, ◌*◌, ◌≤◌}
+use Rattle.std.proofs.Common.{arith, length-take, length-drop, take-suc, get_or-drop, lt-ltb, le-leb}
+use Rattle.std.specs.Prelude.{◌≡◌, List, length, take, drop}
 use Rattle.std.proofs.Math.Path.{refl}
 use Rattle.std.proofs.Math.Dec.{eqb}
 use Rattle.std.proofs.Math.Bool.{false}
@@ -18,7 +18,7 @@ use Rattle.cursor.specs.declared.NodeStep.TheVariants as node-steps
 use Rattle.cursor.specs.Steps.{pick, kinds, byte_then, number_then, step_then, node_then, byte_at, skip_at, number_at, kind_at, sum_at, remains_at, node_at}
 use Rattle.cursor.specs.Tree.{got, then, coefficients_at, sum_of, grow, tree_at}
 use Rattle.cursor.specs.Meaning.{tree_of, tree_in}
-use Rattle.cursor.specs.Inverse.{IsNode, IsData, kind_of, pick-then, pick-else, kinds-by, byte-went, number-went, step_went, node-went, then-went, no_byte, no_number, no_step, no_node, no-tree, byte-read, skip_read, number_read, node-read}
+use Rattle.cursor.specs.Inverse.{IsNode, IsData, pick-else, kinds-by, byte-went, number-went, step_went, node-went, then-went, no_byte, no_number, no_node, no-tree, byte-read, skip_read, number_read, node-read}
 use Rattle.cursor.specs.Sound.{Arguments, IsTree}
 
 module _ (s : List ℕ) (j : ℕ) where

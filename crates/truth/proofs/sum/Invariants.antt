@@ -1,4 +1,4 @@
-use Rattle.std.proofs.Common.{to_z, w64, ◌*◌, ◌+◌, ◌-◌, ◌≤◌}
+use Rattle.std.proofs.Common.{◌*◌, ◌+◌, ◌-◌, ◌≤◌}
 use Rattle.whole.specs.Whole.{Sized}
 use Rattle.whole.specs.Bytes.{i32_at}
 use Rattle.truth.proofs.Added.{added}
