@@ -13,7 +13,7 @@ use Rattle.meaning.specs.Book.{Book, Clause, Step, Window, Within, variable_wind
 use Rattle.meaning.specs.Limits.{Each}
 use Rattle.cursor.specs.Steps.{pick}
 use Rattle.cursor.specs.Inverse.{pick-by, pick-else}
-use Rattle.models.specs.Assignments.{assignments, count}
+use Rattle.models.specs.Assignments.{assignments}
 use Rattle.models.specs.Order.{map-append, Numbered, numbered-append, numbered-at, numbered-map, within-lie, lie-within, assignments-count, assignments-split, assignments-placed, prior, after, Placed}
 use Rattle.models.specs.Walk.{Assignment, step, tries, tries_from, walk, sum, total, position, breaks, clean, broken, find, find_then}
 

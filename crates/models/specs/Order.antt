@@ -3,7 +3,7 @@ use Rattle.std.specs.Prelude.{◌≡◌, length, ◌+ℤ◌, ◌-ℤ◌}
 use Rattle.std.proofs.Math.Path.{refl}
 use Rattle.std.proofs.Common.{ap, ◌∙◌, pow-suc, ⊎_elim}
 use mathlib.Core.List.{List, [], ◌∷◌, ◌++◌, map, flat_map, append_assoc}
-use Prim.Native.Nat.{ℕ, zero, suc, ◌+◌, ◌-◌, ◌*◌, ◌^◌, ◌<◌, ◌≤◌}
+use Prim.Native.Nat.{ℕ, zero, suc, ◌+◌, ◌*◌, ◌^◌, ◌<◌, ◌≤◌}
 use native.Mathlib.Omega.{arith}
 use Rattle.std.proofs.Math.Nat.{pow-zero}
 use Rattle.whole.specs.Whole.{lt-or-le}

@@ -2,14 +2,14 @@
 use Rattle.std.specs.Prelude.{◌≡◌, refl, [], ◌∷◌, pos}
 use Rattle.std.proofs.Math.Option.{none}
 use Rattle.meaning.specs.Constraint.{truth, equal}
-use Rattle.meaning.specs.Book.{Book, Clause, variable_window}
+use Rattle.meaning.specs.Book.{Book, Clause}
 use Rattle.sexp.specs.Bytes.{bytes}
 use Rattle.sexp.specs.Sexp.{◌⧺◌, onto, render, lines_onto, each}
 use Rattle.put.specs.Digits.{digits, digits_up_to}
 use Rattle.put.specs.Number.{num}
 use Rattle.script.specs.Names.{flag_name, place_name, input_name, next, in_state, pair_name}
 use Rattle.script.specs.Terms.{limits, same, product, sum, compared, constraint}
-use Rattle.script.specs.Lines.{state_lines, relation_lines, input_line, input_lines, denied, place_limits, init_line, argument, atom_items, body_items, frame, frame_but, input_limits, clause_part, clause_part_of, trans_line, prop_line}
+use Rattle.script.specs.Lines.{state_lines, relation_lines, input_lines, denied, place_limits, init_line, argument, atom_items, body_items, frame, frame_but, input_limits, clause_part, clause_part_of, trans_line, prop_line}
 use Rattle.script.specs.Text.{script, text}
 
 -- the book of 23 bytes: one relation without places, one clause that is always true

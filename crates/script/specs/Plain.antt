@@ -5,7 +5,7 @@ use Rattle.std.proofs.Common.{arith, ne_eqb}
 use Rattle.meaning.specs.Constraint.{Sum, Constraint, truth, at_most, equal, not, and, or, remainder}
 use Rattle.meaning.specs.Book.{Atom, Clause, Book, Window, none_such, place_window, variable_window}
 use Rattle.sexp.specs.Bytes.{bytes}
-use Rattle.sexp.specs.Sexp.{list, end, each, over, lines}
+use Rattle.sexp.specs.Sexp.{end, each, over}
 use Rattle.sexp.specs.Parse.{kind_of, is_letter, letters, is_name, plain, plains, parse}
 use Rattle.sexp.specs.Back.{plains-and, plains-each, letters-append, parse-lines}
 use Rattle.put.specs.Digits.{digits, digits-by}

@@ -28,7 +28,7 @@ use Rattle.put.specs.Number.{num}
 use Rattle.put.specs.Shows.{Shows, Lists}
 use Rattle.put.proofs.Laws.{relist, reshow}
 use Rattle.script.specs.Names.{flag_name, place_name, input_name, next, in_state}
-use Rattle.script.specs.Terms.{limits, product, sum, compared}
+use Rattle.script.specs.Terms.{limits, product, compared}
 use Rattle.term.specs.declared.Row.{Row}
 use Rattle.term.specs.declared.Row.TheVariants.{Places, Inputs}
 use Rattle.term.specs.declared.Name as Name'
