@@ -9,7 +9,7 @@ use mathlib.Core.List.{List, []}
 use mathlib.Core.Option.{Option, none, some}
 use lib.ListN.{length, get_or, take, drop, length-drop}
 use lib.Seq.{take-length}
-use lib.Dec.{eqb, eqb→eq}
+use lib.Dec.{eqb}
 use lib.IntN.{ℤ, pos}
 use borrow.Author.Tests.{eqb-true, eqb-false, lt-ltb, le-ltb, eq-eqb, ne_eqb}
 use Rattle.meaning.specs.Book.{Book, Fact, head, body}
@@ -19,9 +19,9 @@ use Rattle.reply.specs.declared.Refusal.{Refusal}
 use Rattle.reply.specs.declared.Answer as code
 use Rattle.reply.specs.declared.Answer.TheVariants.{Done, Refused}
 use Rattle.reply.specs.Answer.{Answer, done, refused, ok, number, need, and_then, refuse, told}
-use Rattle.reply.specs.Among.{Among, need-ok, told-done, told-no}
+use Rattle.reply.specs.Among.{Among, told-done, told-no}
 use Rattle.lists.specs.Instance.{clause_at, step_at, judge}
-use Rattle.lists.specs.Derivation.{goal, judge_goal, judge_step, check, check_derivation}
+use Rattle.lists.specs.Derivation.{goal, judge_step, check, check_derivation}
 use Rattle.lists.specs.Among.{among-derivation}
 use Rattle.lists.specs.Convert.{derivation_steps}
 use Rattle.lists.specs.Due.{due, due_all, due-none}

@@ -1,17 +1,15 @@
 -- The facts of a step by where they stand: an atom's values are those of its arguments.
-use Prim.Native.Nat.{ℕ, zero, suc, ◌+◌, ◌<◌, ◌≤◌}
-use native.Mathlib.Nat.{not-suc-le-zero}
+use Prim.Native.Nat.{ℕ, suc, ◌+◌, ◌<◌, ◌≤◌}
 use native.Mathlib.Omega.{arith}
-use mathlib.Core.Path.{◌≡◌, refl, sym, ap, ap₂, ◌∙◌}
+use mathlib.Core.Path.{◌≡◌, refl, ap, ap₂, ◌∙◌}
 use mathlib.Core.List.{List, [], ◌∷◌, map}
 use mathlib.Core.Option.{Option, none, some}
-use lib.ListN.{length, get_or, take, drop, length-take, length-drop}
-use lib.Seq.{get_or-take, get_or-drop, length-take-le}
+use lib.ListN.{length, get_or, take, drop, length-take}
+use lib.Seq.{get_or-take, get_or-drop}
 use lib.IntN.{ℤ, pos}
-use Rattle.meaning.specs.Book.{Book, Atom, Fact, at, at_body, head, body}
+use Rattle.meaning.specs.Book.{Atom, at, head, body}
 use Rattle.lists.specs.Instance.{clause_at, step_at}
 use Rattle.lists.specs.Derivation.{goal}
-use Rattle.cursor.specs.Sound.{Arguments}
 use Rattle.book.specs.declared.Header.{Header}
 use Rattle.book.specs.Meaning.{book_in}
 use Rattle.book.specs.Trailer.{read-trailed}

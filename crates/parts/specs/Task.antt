@@ -3,7 +3,7 @@ use Rattle.std.specs.Prelude.{ℕ, ◌+◌, ◌≤◌, ◌≡◌, Bool, true, fa
 use Rattle.meaning.specs.Constraint.{Constraint, holds}
 use Rattle.cursor.specs.declared.Cursor.{Cursor}
 use Rattle.cursor.specs.declared.Step.TheVariants.{Moved}
-use Rattle.cursor.specs.Steps.{pick, value_then}
+use Rattle.cursor.specs.Steps.{pick}
 use Rattle.cursor.specs.Meaning.{tree_in}
 use Rattle.cursor.specs.Sound.{Arguments, IsTree}
 use Rattle.book.specs.declared.Header.{Header}

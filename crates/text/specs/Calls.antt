@@ -4,7 +4,7 @@ use Rattle.std.proofs.Common.{ap, ◌∙◌}
 use Rattle.reply.specs.declared.Answer.{Answer}
 use Rattle.reply.specs.declared.Answer.TheVariants.{Done, Refused}
 use Rattle.reply.specs.Answer.{ok, refuse, says-done, says-refused}
-use Rattle.reply.specs.Room.{Due, kept, wrote, written, Leaves, Fair, written-wrote}
+use Rattle.reply.specs.Room.{Due, kept, written, Leaves, Fair, written-wrote}
 use Rattle.reply.proofs.Room.{written-needs, written-fair}
 use Rattle.meaning.specs.Book.{Book}
 use Rattle.book.specs.Answer.{accepted, answer}

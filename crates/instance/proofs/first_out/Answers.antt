@@ -1,5 +1,4 @@
 use Rattle.std.proofs.Common.{ap, arith, drop, length, length-drop, length-take-le, sym, take, ◌+◌, ◌∙◌, ◌≡◌}
-use Rattle.meaning.specs.Book.{variable_window}
 use Rattle.instance.proofs.Laws.{inside-none, inside-more, out-all, out_first, window-inside}
 use Rattle.instance.proofs.first_out.Goals as goal
 

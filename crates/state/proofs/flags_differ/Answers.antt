@@ -1,4 +1,4 @@
-use Rattle.std.proofs.Common.{arith, false, refl, sym}
+use Rattle.std.proofs.Common.{arith, refl, sym}
 use Rattle.cursor.proofs.Laws.{via}
 use Rattle.state.specs.Laws.{bits-length, bits_at}
 use Rattle.state.proofs.Difference.{diff-start, diff-none, diff-here, diff-later}
