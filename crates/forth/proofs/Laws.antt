@@ -14,7 +14,7 @@ use mir.Syntax.{w32}
 use mir.Val.{hbits, to_z, of_z}
 use Rattle.whole.specs.Whole.{own}
 use Rattle.meaning.specs.Book.{Book, Window, place_window}
-use Rattle.meaning.specs.State.{Control, State, flags, bit, low_row, low_rows, first}
+use Rattle.meaning.specs.State.{Control, flags, bit, low_row, low_rows, first}
 use Rattle.lists.specs.Trace.{flat, sum}
 use Rattle.state.specs.State.{front, rows_of, placed, state_of}
 use Rattle.state.specs.Laws.{front-take, front-more, front-replicate, bits-length}

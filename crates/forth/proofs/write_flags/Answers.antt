@@ -1,4 +1,4 @@
-use Rattle.std.proofs.Common.{arith, false, length-set, ◌≡◌}
+use Rattle.std.proofs.Common.{arith, length-set, ◌≡◌}
 use Rattle.state.specs.State.{front}
 use Rattle.steps.specs.Put.{put-none}
 use Rattle.forth.proofs.Laws.{flags-more}
