@@ -14,7 +14,7 @@ import re
 import sys
 
 # A name of antt ends at a space, a bracket or one of these signs.
-TOKEN = re.compile(r"[^\s(){}\[\].,;:=\"«»⌜⌝⟦⟧λ→@]+")
+TOKEN = re.compile(r"[^\s(){}\[\].,;:=`\"«»⌜⌝⟦⟧λ→@]+")
 DECLARED = re.compile(r"\s*(?:(?:unfoldable|abbrev|pub|data|record|private|postulate)\s+)*([^\s:(){}=]+)\s*[:({]")
 INSIDE = re.compile(r"(?<=[a-z0-9])(?=[A-Z])")
 

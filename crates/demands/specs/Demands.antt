@@ -110,7 +110,7 @@ pub record Demand2 (s : List ℕ) : Type 0 where
   -- then the count is that of all assignments: for each clause, (hi − lo + 1) to the power V
   pub all-counted : (m : List ℕ) (x : Reply) → CheckModel s m x → (b : Book) → Holds s b → number_of (told x) ≡ 0 → told x ≡ plain ok (total b)
   pub clause-count : (b : Book) (c : Clause) → count (variable_window b c) c.vars ≡ width (record { lo = b.lo; hi = b.hi }) ^ c.vars
-  -- 25 names the first broken instance t, and the count is its position in document 01's order (`brokenAt`)
+  -- 25 names the first broken instance t, and the count is its position in document 01's order (`broken_at`)
   pub first-broken : (m : List ℕ) → Bytes m → (x : Reply) → CheckModel s m x → (b : Book) → Holds s b → number_of (told x) ≡ 25
       → (ts : List Constraint) × (t : Step) × Spells b ts m × FirstBroken b ts t × (told x ≡ broken_at b t)
   -- the other refusals, in order: 21 or 22 for bytes that are no such writing; then 23 at the first byte of the query's constraint, if that is true; 24;
@@ -152,7 +152,7 @@ pub record Demand3 (s : List ℕ) (b : Book) : Type 0 where
   -- over and back is the same derivation
   pub over-and-back : (d : List Step) (f : Fact) → Derives b d f
       → last_writers b f.rel (steps b (Flagged b) (moves b (Flagged b) (first b flags) d)) ≡ d
-  -- ---- On the conversions: `asTrace` and `asDerivation` are those two as lists of numbers -----------------
+  -- ---- On the conversions: `as_trace` and `as_derivation` are those two as lists of numbers -----------------
   -- a trace is written exactly when the derivation is accepted, and a million numbers and the room hold the trace
   pub to-trace-exact : (l d e : List ℤ) (g : Fact) (x : code.Answer) → ToTrace s l g d x e
       → ((n : ℕ) × (x ≡ Done n)) ↔ (IsDerivation s l g × (length (as_trace b flags l) ≤ 1000000) × (length (as_trace b flags l) ≤ length d))

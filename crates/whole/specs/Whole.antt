@@ -67,7 +67,7 @@ sfits-is {w = w} e f = subst (SFits w) (sym e) f
 pub back : {w : Width} {z x : ℤ} → z ≡ x → SFits w x → to_z w (of_z w z) ≡ x
 back {w = w} e f = ap (λ (y : ℤ). to_z w (of_z w y)) e ∙ to_z-of_z f
 
--- the same where z is a call's result or a slice's element, whose bound the logic has as a plain `<`: `c.f.ok`, `c.shared-slice-known.given i`
+-- the same where z is a call's result or a slice's element, whose bound the logic has as a plain `<`: `c.f.ok`, `c.shared_slice_known-1.given i`
 pub own : (w : Width) (z : ℤ) → mag z < 2 ^ hbits w → to_z w (of_z w z) ≡ z
 own w z h = to_z-of_z (record { sfits = h })
 
