@@ -32,6 +32,15 @@ PLAIN = {"none-such": "none_such"}
 # Names that a `ghost use` line of a .rt file gives to a definition of another crate.
 GIVEN = {"stateSize": "state_size", "bodyMet": "body_met", "checkList": "check_list", "afterStep": "after_step"}
 
+# Labels that port.py gave to clauses and that say less than these words, or another thing: of every crate, and of some.
+LABELS = {"book_value": "accepted", "le_len": "long_enough"}
+LABELS_IN = {
+    "state": {"h_in_bounds": "fits", "flags_in_bounds": "fits"},
+    "forth": {"h_in_bounds": "fits", "flags_in_bounds": "fits", "list_in_bounds": "fits", "n_in_bounds": "fits"},
+    "trace": {"size_in_bounds": "fits"},
+    "model": {"h_bound": "few"},
+}
+
 
 def snake(name):
     """`placeWindow` is `place_window`; `eqVals-exact` is `eq_vals-exact`."""
@@ -98,7 +107,7 @@ def main():
     changed = 0
     for path in all_files():
         old = path.read_text()
-        new = respell(respell(old, LOCAL.get(str(path), {})), table)
+        new = respell(respell(old, LOCAL.get(str(path), {})), {**table, **LABELS, **LABELS_IN.get(path.parts[1], {})})
         if new != old:
             path.write_text(new)
             changed += 1

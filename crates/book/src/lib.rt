@@ -50,7 +50,7 @@ pub struct Span {
 impl Header {
     // the trailer's rules; one and zero are its last two bytes
     fn judged(self, len: usize, one: u8, zero: u8) -> Reading
-        requires le_len { 16 ≤ len }
+        requires long_enough { 16 ≤ len }
         requires count_bound { self.start + self.count * 2 + 16 < 18446744073709551616 }
         ensures { result ≡ headed self len one zero }
     {
@@ -66,7 +66,7 @@ impl Header {
 
     // the rules but for the window
     fn measured(self, len: usize, one: u8, zero: u8) -> Reading
-        requires le_len { 16 ≤ len }
+        requires long_enough { 16 ≤ len }
         requires count_bound { self.start + self.count * 2 + 16 < 18446744073709551616 }
         ensures { result ≡ sized self len one zero }
     {
@@ -370,7 +370,7 @@ fn laid(book: &[u8], p: usize) -> cursor::Clause
 
 // The record of clause k of a book that was accepted with the header h: it is that clause of the meaning's book.
 pub fn record(book: &[u8], h: Header, k: usize) -> cursor::Clause
-    requires book_value { read book.now ≡ Good h }
+    requires accepted { read book.now ≡ Good h }
     requires k_lt_count { k < h.count }
     ensures { Held book.now h k result }
 {
@@ -382,7 +382,7 @@ pub fn record(book: &[u8], h: Header, k: usize) -> cursor::Clause
 
 // How many places relation r has.
 pub fn arity_of(book: &[u8], h: Header, r: usize) -> usize
-    requires book_value { read book.now ≡ Good h }
+    requires accepted { read book.now ≡ Good h }
     requires r_lt_relations { r < h.relations }
     ensures { (result ≡ get_or (book_in book.now h).arities r 0) × (result ≤ 8) }
 {

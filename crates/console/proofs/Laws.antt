@@ -1,11 +1,13 @@
--- Checksums and lists that go on over again, a number at a time.
+-- Checksums and lists that go on over again, a number at a time; bytes behind those that stand.
 use Prim.Native.Nat.{ℕ, zero, suc, ◌+◌, ◌-◌, ◌^◌, ◌≤◌, ◌<◌}
 use native.Mathlib.Omega.{arith}
 use native.Mathlib.Numerals.{add-one}
-use mathlib.Core.Path.{◌≡◌, refl}
-use mathlib.Core.List.{List}
-use lib.ListN.{length, get_or, set, drop, drop_of_length-le}
-use lib.Seq.{drop-cons, set_out}
+use mathlib.Core.Path.{◌≡◌, refl, ap, ◌∙◌}
+use mathlib.Core.List.{List, ◌++◌}
+use lib.ListN.{length, get_or, set, take, drop, drop_of_length-le}
+use lib.Seq.{drop-cons, set_out, length-take-le, take-add, take_at, drop_at}
+use Rattle.std.proofs.lemmas.List.{take-append-le}
+use borrow.Rule.Slice.PartMut.{put_mid, post_of}
 use lib.IntN.{ℤ, pos}
 use lib.Signed.{mag}
 use mir.Syntax.{w32}
@@ -37,3 +39,14 @@ pub again-full : (n count at : ℕ) (l : List ℤ) → length l ≤ at → again
 unfolding again
 again-full zero count at l h = refl
 again-full (suc n) count at l h = rw (set_out l at (get_or l (at - count) (pos 0)) h) (again-full n count (at + 1) l (omega arith))
+
+-- ---- bytes read behind those that stand
+
+-- n bytes of what was put into the part of a room from d on stand behind its first d bytes
+pub take-put_behind : (xs ys : List ℕ) (d k n : ℕ) → d ≤ length xs → n ≤ length ys → take (d + n) (put_mid d k xs ys) ≡ take d xs ++ take n ys
+take-put_behind xs ys d k n h m =
+    let front : length (take d xs) ≡ d = length-take-le d xs h in
+    let rest = ys ++ post_of d k xs in
+    take-add d n (put_mid d k xs ys)
+    ∙ (λ i. take_at (take d xs) rest d front i ++ take n (drop_at (take d xs) rest d front i))
+    ∙ ap (λ l. take d xs ++ l) (take-append-le n ys (post_of d k xs) m)

@@ -1,7 +1,8 @@
 // What the programs read from standard input and write to standard output.
 #![tactic(auto)]
 
-ghost use Rattle.std.specs.Prelude.{◌+◌, ◌*◌, ◌≤◌, ◌<◌, ◌≡◌, length, drop, IfOk};
+ghost use Rattle.std.specs.Prelude.{◌+◌, ◌*◌, ◌≤◌, ◌<◌, ◌≡◌, length, take, drop, IfOk};
+ghost use Rattle.std.specs.Io.KnownBytes.{Consumes, IsAtEnd};
 ghost use Rattle.console.specs.Console.{sum_on, sum_from, IsLength, Ends, again};
 
 use std::io;
@@ -57,6 +58,8 @@ pub fn print_sum<W: Write>(out: &mut W, part: &[u8]) -> io::Result<()> {
 pub fn read_full<R: Read>(input: &mut R, room: &mut [u8]) -> io::Result<usize>
     ensures length { length room.new ≡ length room.old }
     ensures within { IfOk result (λ n. n ≤ length room.old) }
+    ensures bytes { IfOk result (λ n. Consumes (R.remaining input.old) (R.remaining input.new) (take n room.new)) }
+    ensures ended { IfOk result (λ n. n < length room.old → IsAtEnd (R.remaining input.new)) }
 {
     let mut done = 0;
     while done < room.len() {

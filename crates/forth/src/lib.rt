@@ -39,8 +39,8 @@ fn write_flags(flags: &[bool; 16], n: usize, room: &mut [i32], at: usize)
 
 // the places of all relations
 fn write_places(book: &[u8], h: book::Header, rows: &[[i32; 8]; 16], room: &mut [i32], at: usize)
-    requires book_value { read book.now ≡ Good h }
-    requires h_in_bounds { at + sum (book_in book.now h).arities ≤ length room.old }
+    requires accepted { read book.now ≡ Good h }
+    requires fits { at + sum (book_in book.now h).arities ≤ length room.old }
     ensures { Put room.old room.new at (flat (rows_of (book_in book.now h).arities rows.now)) }
 {
     let n = whole::wide(h.relations);
@@ -63,8 +63,8 @@ fn write_state(
     room: &mut [i32],
     at: usize,
 )
-    requires book_value { read book.now ≡ Good h }
-    requires flags_in_bounds { at + state_size (book_in book.now h) state.flags ≤ length room.old }
+    requires accepted { read book.now ≡ Good h }
+    requires fits { at + state_size (book_in book.now h) state.flags ≤ length room.old }
     ensures { Put room.old room.new at (state_numbers (book_in book.now h) state.flags (state_of (book_in book.now h).arities flags.now rows.now)) }
 {
     let n = whole::wide(h.relations);
@@ -84,8 +84,8 @@ fn write_move(
     room: &mut [i32],
     at: usize,
 )
-    requires book_value { read book.now ≡ Good h }
-    requires n_in_bounds { (i + n ≤ length list.now) × (at + n + state_size (book_in book.now h) state.flags ≤ length room.old) }
+    requires accepted { read book.now ≡ Good h }
+    requires fits { (i + n ≤ length list.now) × (at + n + state_size (book_in book.now h) state.flags ≤ length room.old) }
     ensures { Put room.old room.new at (take n (drop i list.now) ++ state_numbers (book_in book.now h) state.flags (state_of (book_in book.now h).arities flags.now rows.now)) }
 {
     steps::copy(list, i, n, room, at);
@@ -141,7 +141,7 @@ fn write_steps(
     requires tabled { Tabled book.now h table.now }
     requires walk { Walk book.now h list.now 0 0 }
     requires sized { Sized (book_in book.now h) state.flags size }
-    requires flags_in_bounds { size + length (trace_due (book_in book.now h) state.flags list.now 0 (first (book_in book.now h) state.flags)) ≤ length room.old }
+    requires fits { size + length (trace_due (book_in book.now h) state.flags list.now 0 (first (book_in book.now h) state.flags)) ≤ length room.old }
     ensures { Put room.old room.new size (trace_due (book_in book.now h) state.flags list.now 0 (first (book_in book.now h) state.flags)) }
 {
     let mut flags = [false; 16];
@@ -172,7 +172,7 @@ pub fn write(
     requires tabled { Tabled book.now h table.now }
     requires walk { Walk book.now h list.now 0 0 }
     requires sized { Sized (book_in book.now h) state.flags size }
-    requires list_in_bounds { length (as_trace (book_in book.now h) state.flags list.now) ≤ length room.old }
+    requires fits { length (as_trace (book_in book.now h) state.flags list.now) ≤ length room.old }
     ensures { Put room.old room.new 0 (as_trace (book_in book.now h) state.flags list.now) }
 {
     let flags = [false; 16];

@@ -44,7 +44,7 @@ fn try_clause(
     model: &[u8],
     before: usize,
 ) -> Reply
-    requires book_value { read book.now ≡ Good h }
+    requires accepted { read book.now ≡ Good h }
     requires tasked { Tasked book.now h model.now k t }
     requires before_bound { (before ≤ 1000000) × (count (windows_of book.now h k) t.clause.variables ≤ 1000000) }
     ensures { told result ≡ clause_answer book.now h model.now k before }
@@ -73,9 +73,9 @@ fn try_clause(
 
 // all clauses in order
 fn try_all(book: &[u8], h: book::Header, model: &[u8], starts: [usize; 16]) -> Reply
-    requires book_value { read book.now ≡ Good h }
+    requires accepted { read book.now ≡ Good h }
     requires started { Started model.now (book_in book.now h).arities starts }
-    requires h_bound { total (book_in book.now h) ≤ 1000000 }
+    requires few { total (book_in book.now h) ≤ 1000000 }
     ensures { told result ≡ walk_answer book.now h model.now }
 {
     let mut seen = 0;
@@ -97,7 +97,7 @@ fn try_all(book: &[u8], h: book::Header, model: &[u8], starts: [usize; 16]) -> R
 
 // the query's constraint, the number of assignments, and all clauses
 fn weigh(book: &[u8], h: book::Header, model: &[u8], starts: [usize; 16]) -> Reply
-    requires book_value { read book.now ≡ Good h }
+    requires accepted { read book.now ≡ Good h }
     requires started { Started model.now (book_in book.now h).arities starts }
     ensures { told result ≡ weighed_answer book.now h model.now }
 {

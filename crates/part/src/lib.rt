@@ -38,7 +38,7 @@ fn atom(
     p: usize,
     after: bool,
 ) -> usize
-    requires book_value { read book.now ≡ Good h }
+    requires accepted { read book.now ≡ Good h }
     requires stands { Stands book.now h r p }
     ensures { Lists room.old room.new at result (lines.atom_items after k (atom_of book.now h r p)) }
 {
@@ -63,7 +63,7 @@ fn body(
     b: u8,
     p: usize,
 ) -> usize
-    requires book_value { read book.now ≡ Good h }
+    requires accepted { read book.now ≡ Good h }
     requires fact { (b ≡ 255) ⊎ Stands book.now h b p }
     ensures { Lists room.old room.new at result (lines.body_items k (body_of book.now h b p)) }
 {
@@ -111,7 +111,7 @@ fn frames(room: &mut [u8], at: usize, book: &[u8], h: book::Header, f: usize) ->
 
 // The part of clause k.
 pub fn part(room: &mut [u8], at: usize, book: &[u8], h: book::Header, k: usize) -> usize
-    requires book_value { read book.now ≡ Good h }
+    requires accepted { read book.now ≡ Good h }
     requires k_lt_count { k < h.count }
     ensures { Lists room.old room.new at result (lines.clause_part_of (book_in book.now h) k (get_or (book_in book.now h).clauses k none_such)) }
 {

@@ -179,7 +179,7 @@ fn half_of(book: &[u8], h: book::Header, r: u8, starts: [usize; 16]) -> Half
 
 // Clause k of an accepted book, with the starts of the constraints of a model that was read.
 pub fn task_of(book: &[u8], h: book::Header, k: usize, starts: [usize; 16]) -> Task
-    requires book_value { read book.now ≡ Good h }
+    requires accepted { read book.now ≡ Good h }
     requires k_lt_count { k < h.count }
     ensures { Taken book.now h k starts result }
 {

@@ -140,8 +140,8 @@ pub fn size(book: &[u8], h: book::Header) -> usize
 
 // The places of a state that stand from `at` on, as rows.
 pub fn first_places(book: &[u8], h: book::Header, list: &[i32], at: usize) -> [[i32; 8]; 16]
-    requires book_value { read book.now ≡ Good h }
-    requires h_in_bounds { at + sum (book_in book.now h).arities ≤ length list.now }
+    requires accepted { read book.now ≡ Good h }
+    requires fits { at + sum (book_in book.now h).arities ≤ length list.now }
     ensures { result ≡ first_rows (book_in book.now h).arities (drop at list.now) }
 {
     let n = whole::wide(h.relations);
@@ -159,8 +159,8 @@ pub fn first_places(book: &[u8], h: book::Header, list: &[i32], at: usize) -> [[
 
 // The first of a state's places, which stand from `at` on, that lies outside its window, or the place after them.
 pub fn places_out(book: &[u8], h: book::Header, list: &[i32], at: usize) -> usize
-    requires book_value { read book.now ≡ Good h }
-    requires h_in_bounds { at + sum (book_in book.now h).arities ≤ length list.now }
+    requires accepted { read book.now ≡ Good h }
+    requires fits { at + sum (book_in book.now h).arities ≤ length list.now }
     ensures { result ≡ first_out_rows (place_window (book_in book.now h)) at (cut (book_in book.now h).arities (drop at list.now)) }
 {
     let n = whole::wide(h.relations);
@@ -186,8 +186,8 @@ fn places_differ(
     list: &[i32],
     at: usize,
 ) -> usize
-    requires book_value { read book.now ≡ Good h }
-    requires h_in_bounds { at + sum (book_in book.now h).arities ≤ length list.now }
+    requires accepted { read book.now ≡ Good h }
+    requires fits { at + sum (book_in book.now h).arities ≤ length list.now }
     ensures { result ≡ first_diff at (drop at list.now) (flat (rows_of (book_in book.now h).arities rows.now)) }
 {
     let n = whole::wide(h.relations);
@@ -214,8 +214,8 @@ pub fn differs(
     list: &[i32],
     at: usize,
 ) -> usize
-    requires book_value { read book.now ≡ Good h }
-    requires flags_in_bounds { at + state_size (book_in book.now h) state.flags ≤ length list.now }
+    requires accepted { read book.now ≡ Good h }
+    requires fits { at + state_size (book_in book.now h) state.flags ≤ length list.now }
     ensures { result ≡ first_diff at (drop at list.now) (state_numbers (book_in book.now h) state.flags (state_of (book_in book.now h).arities flags.now rows.now)) }
 {
     let n = whole::wide(h.relations);
@@ -235,7 +235,7 @@ pub fn holds(
     relation: usize,
     values: &[i32],
 ) -> bool
-    requires book_value { read book.now ≡ Good h }
+    requires accepted { read book.now ≡ Good h }
     requires relation_lt_relations { (relation < h.relations) × (length values.now ≡ get_or (book_in book.now h).arities relation 0) }
     ensures { result ≡ has (book_in book.now h) state.flags (goal relation values.now) (state_of (book_in book.now h).arities flags.now rows.now) }
 {

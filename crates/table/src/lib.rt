@@ -49,7 +49,7 @@ fn seat_of(r: u8, p: usize) -> u16
 
 // how many there are
 fn many_of(book: &[u8], h: book::Header, r: u8) -> u16
-    requires book_value { read book.now ≡ Good h }
+    requires accepted { read book.now ≡ Good h }
     requires r_lt_relations { (r ≡ 255 → ⊥) → r < h.relations }
     ensures { result ≡ many_of book.now h r }
 {
@@ -61,7 +61,7 @@ fn many_of(book: &[u8], h: book::Header, r: u8) -> u16
 
 // a clause's row
 fn row_of(book: &[u8], h: book::Header, c: cursor::Clause) -> [u16; 8]
-    requires book_value { read book.now ≡ Good h }
+    requires accepted { read book.now ≡ Good h }
     requires fits { Fits h c }
     ensures { result ≡ row_of book.now h c }
 {

@@ -20,7 +20,7 @@ ghost use Rattle.trace.specs.Answer.{answer};
 
 // 13, 18, 14: the first state, of `size` numbers
 fn judged_first(book: &[u8], h: book::Header, list: &[i32], size: usize) -> reply::Answer
-    requires book_value { read book.now ≡ Good h }
+    requires accepted { read book.now ≡ Good h }
     requires sized { Sized (book_in book.now h) state.flags size }
     ensures { result ≡ told (judge_first (book_in book.now h) state.flags list.now) }
 {
@@ -96,7 +96,7 @@ fn ended(
     relation: usize,
     values: &[i32],
 ) -> reply::Answer
-    requires book_value { read book.now ≡ Good h }
+    requires accepted { read book.now ≡ Good h }
     requires relation_lt_relations { (relation < h.relations) × (length values.now ≡ get_or (book_in book.now h).arities relation 0) }
     ensures { result ≡ told (ends (book_in book.now h) state.flags (state_in book.now h flags.now rows.now) (goal relation values.now) (length list.now)) }
 {
@@ -119,7 +119,7 @@ fn walk(
 ) -> reply::Answer
     requires tabled { Tabled book.now h table.now }
     requires sized { Sized (book_in book.now h) state.flags size }
-    requires size_in_bounds { size ≤ length list.now }
+    requires fits { size ≤ length list.now }
     requires relation_lt_relations { (relation < h.relations) × (length values.now ≡ get_or (book_in book.now h).arities relation 0) }
     ensures { result ≡ told (walk_due (book_in book.now h) state.flags (goal relation values.now) list.now size (first_of (book_in book.now h) state.flags list.now)) }
 {

@@ -4,10 +4,10 @@ use Rattle.book.specs.Trailer.{read-trailed}
 use Rattle.book.proofs.arity_of.Goals as goal
 
 pub bounds-book-r : goal.bounds-book-r
-bounds-book-r c = let p = c.requires in let k = (read-trailed _ _ p.book_value).kept in omega (arith, p.r_lt_relations)
+bounds-book-r c = let p = c.requires in let k = (read-trailed _ _ p.accepted).kept in omega (arith, p.r_lt_relations)
 
 pub returns : goal.returns
 returns c =
     let p = c.requires in
     let e = c.wide.ensures.0 in
-    (e ∙ sym (arity-is _ _ p.book_value _ p.r_lt_relations), omega (arith, e, arity-small _ _ p.book_value _ p.r_lt_relations))
+    (e ∙ sym (arity-is _ _ p.accepted _ p.r_lt_relations), omega (arith, e, arity-small _ _ p.accepted _ p.r_lt_relations))

@@ -30,7 +30,7 @@ returns-then-room-all c =
 pub write-requires : goal.write-requires
 write-requires c =
     let record { tabled = table; walk = walk; long = long } = c.requires in
-    let size = c.size-size.ensures in record { tabled = table; walk = walk; sized = size; list_in_bounds = omega (arith, long-is long size.is, c.if-room-all.false) }
+    let size = c.size-size.ensures in record { tabled = table; walk = walk; sized = size; fits = omega (arith, long-is long size.is, c.if-room-all.false) }
 
 pub returns : goal.returns
 returns c =

@@ -9,22 +9,22 @@ use Rattle.forth.proofs.write_places.Goals.{In-loop-r}
 use Rattle.forth.proofs.write_places.Goals as goal
 
 pub loop-r-init : goal.loop-r-init
-loop-r-init c = let a = c.args in (placing-first (book_in a.book.now a.h).arities a.rows.now a.room.now a.at c.requires.h_in_bounds, refl)
+loop-r-init c = let a = c.args in (placing-first (book_in a.book.now a.h).arities a.rows.now a.room.now a.at c.requires.fits, refl)
 
 -- the relation that the loop is at is one of the book's
 module _ (c : In-loop-r) where
   below : c.loop-r.r < length (book_in c.args.book.now c.args.h).arities
-  below = omega (arith, relations-are c.args.book.now c.args.h c.requires.book_value, c.wide-n.ensures.0, c.loop-r-test.true)
+  below = omega (arith, relations-are c.args.book.now c.args.h c.requires.accepted, c.wide-n.ensures.0, c.loop-r-test.true)
 
   places : sum (drop c.loop-r.r (book_in c.args.book.now c.args.h).arities)
       ≡ get_or (book_in c.args.book.now c.args.h).arities c.loop-r.r 0 + sum (drop (c.loop-r.r + 1) (book_in c.args.book.now c.args.h).arities)
   places = sum_more (book_in c.args.book.now c.args.h).arities c.loop-r.r below
 
   few : c.loop-r.r < 16
-  few = omega (arith, relations-few c.args.book.now c.args.h c.requires.book_value, c.wide-n.ensures.0, c.loop-r-test.true)
+  few = omega (arith, relations-few c.args.book.now c.args.h c.requires.accepted, c.wide-n.ensures.0, c.loop-r-test.true)
 
 pub arity_of-many-requires : goal.arity_of-many-requires
-arity_of-many-requires c = record { book_value = c.requires.book_value; r_lt_relations = omega (arith, c.wide-n.ensures.0) }
+arity_of-many-requires c = record { accepted = c.requires.accepted; r_lt_relations = omega (arith, c.wide-n.ensures.0) }
 
 pub offset_bounds-rows-r : goal.offset_bounds-rows-r
 offset_bounds-rows-r c = let k = few (goal.at.offset_bounds-rows-r c).In-loop-r in search rules
@@ -59,4 +59,4 @@ shape_of-room c = c.loop-r.invariant.1
 pub returns : goal.returns
 returns c =
     let a = c.args in
-    placing-all (book_in a.book.now a.h).arities a.rows.now a.room.now a.at c.loop-r.invariant.0 (omega (arith, relations-are a.book.now a.h c.requires.book_value, c.wide-n.ensures.0, c.loop-r-test.false))
+    placing-all (book_in a.book.now a.h).arities a.rows.now a.room.now a.at c.loop-r.invariant.0 (omega (arith, relations-are a.book.now a.h c.requires.accepted, c.wide-n.ensures.0, c.loop-r-test.false))

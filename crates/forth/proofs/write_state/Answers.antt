@@ -10,17 +10,17 @@ write_flags-requires c =
     let a = c.args in
     let p = c.requires in
     let n = c.wide-n.ensures.0 in
-    (omega (arith, n, relations-few a.book.now a.h p.book_value), omega (arith, n, size_is a.book.now a.h p.book_value, p.flags_in_bounds))
+    (omega (arith, n, relations-few a.book.now a.h p.accepted), omega (arith, n, size_is a.book.now a.h p.accepted, p.fits))
 
 pub write_places-requires : goal.write_places-requires
 write_places-requires c =
     let a = c.args in
     let p = c.requires in
-    let n = c.wide-n.ensures.0 in record { book_value = p.book_value; h_in_bounds = omega (arith, n, size_is a.book.now a.h p.book_value, p.flags_in_bounds, put-length c.write_flags.ensures) }
+    let n = c.wide-n.ensures.0 in record { accepted = p.accepted; fits = omega (arith, n, size_is a.book.now a.h p.accepted, p.fits, put-length c.write_flags.ensures) }
 
 pub returns : goal.returns
 returns c =
     let a = c.args in
     let n = c.wide-n in
     put_as (put_then n.result (bits-length n.result a.flags.now) c.write_flags.ensures c.write_places.ensures)
-    (sym (numbers-are a.book.now a.h a.flags.now a.rows.now n.result c.requires.book_value n.ensures.0))
+    (sym (numbers-are a.book.now a.h a.flags.now a.rows.now n.result c.requires.accepted n.ensures.0))

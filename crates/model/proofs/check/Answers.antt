@@ -8,7 +8,7 @@ pub read_model-scan-requires : goal.read_model-scan-requires
 read_model-scan-requires c = search replies
 
 pub weigh-requires : goal.weigh-requires
-weigh-requires c = record { book_value = search replies; started = search replies }
+weigh-requires c = record { accepted = search replies; started = search replies }
 
 pub returns-in-Refused : goal.returns-in-Refused
 returns-in-Refused c = search replies

@@ -9,7 +9,7 @@ unfolding sum
 loop-k-init c = (omega arith, refl, rest_all _ _)
 
 pub try_clause-r-requires : goal.try_clause-r-requires
-try_clause-r-requires c = record { book_value = search rules; tasked = search asked-task; before_bound = (search all_small, search asked-count) }
+try_clause-r-requires c = record { accepted = search rules; tasked = search asked-task; before_bound = (search all_small, search asked-count) }
 
 pub returns-in-Refused : goal.returns-in-Refused
 returns-in-Refused c = search (via, all-stop)

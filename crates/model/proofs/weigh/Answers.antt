@@ -15,7 +15,7 @@ pub returns-then-total_of-gt1000000 : goal.returns-then-total_of-gt1000000
 returns-then-total_of-gt1000000 c = search weighing
 
 pub try_all-requires : goal.try_all-requires
-try_all-requires c = record { book_value = search rules; started = search rules; h_bound = search few-of }
+try_all-requires c = record { accepted = search rules; started = search rules; few = search few-of }
 
 pub returns : goal.returns
 returns c = search weighing

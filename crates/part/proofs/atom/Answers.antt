@@ -9,7 +9,7 @@ use Rattle.part.proofs.Laws.{argument_at, arguments-are}
 use Rattle.part.proofs.atom.Goals as goal
 
 pub arity_of-n-requires : goal.arity_of-n-requires
-arity_of-n-requires c = record { book_value = c.requires.book_value; r_lt_relations = c.requires.stands.below }
+arity_of-n-requires c = record { accepted = c.requires.accepted; r_lt_relations = c.requires.stands.below }
 
 pub loop-i-init : goal.loop-i-init
 loop-i-init c = (omega arith, each_after _ c.word_in-a.ensures)
@@ -18,7 +18,7 @@ pub overflow_add-x : goal.overflow_add-x
 overflow_add-x c = omega (arith, c.requires.stands.within)
 
 pub overflow_add-x-in-loop-i : goal.overflow_add-x-in-loop-i
-overflow_add-x-in-loop-i c = let p = c.requires in omega (arith, c.arity_of-n.ensures.0, p.stands.within, (read-trailed _ _ p.book_value).short)
+overflow_add-x-in-loop-i c = let p = c.requires in omega (arith, c.arity_of-n.ensures.0, p.stands.within, (read-trailed _ _ p.accepted).short)
 
 pub bounds-book-p : goal.bounds-book-p
 bounds-book-p c = omega (arith, c.arity_of-n.ensures.0, c.requires.stands.within)

@@ -6,7 +6,7 @@ pub returns-then-b-eq255 : goal.returns-then-b-eq255
 returns-then-b-eq255 c = body-none _ _ _ _ _ c.if-b-eq255.true (omega arith) (omega arith)
 
 pub atom-requires : goal.atom-requires
-atom-requires c = let p = c.requires in record { book_value = p.book_value; stands = ⊎_elim (λ e. absurd (c.if-b-eq255.false e)) (λ h. h) p.fact }
+atom-requires c = let p = c.requires in record { accepted = p.accepted; stands = ⊎_elim (λ e. absurd (c.if-b-eq255.false e)) (λ h. h) p.fact }
 
 pub returns : goal.returns
 returns c = body-some _ _ _ _ _ c.if-b-eq255.false c.atom.ensures

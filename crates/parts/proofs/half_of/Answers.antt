@@ -4,7 +4,7 @@ use Rattle.parts.proofs.Reading.{half-some, half-none}
 use Rattle.parts.proofs.half_of.Goals as goal
 
 pub arity_of-requires : goal.arity_of-requires
-arity_of-requires c = record { book_value = c.requires; r_lt_relations = omega (arith, c.if-r-h.true, c.wide-i.ensures.0) }
+arity_of-requires c = record { accepted = c.requires; r_lt_relations = omega (arith, c.if-r-h.true, c.wide-i.ensures.0) }
 
 pub bounds-starts-i : goal.bounds-starts-i
 bounds-starts-i c =

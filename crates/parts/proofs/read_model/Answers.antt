@@ -17,7 +17,7 @@ pub bounds-starts-k : goal.bounds-starts-k
 bounds-starts-k c = let w = c.loop-k.invariant in omega (arith, w.2, c.loop-k-test.true)
 
 pub arity_of-requires : goal.arity_of-requires
-arity_of-requires c = record { book_value = c.requires; r_lt_relations = omega (arith, c.loop-k.invariant.0, c.loop-k-test.true) }
+arity_of-requires c = record { accepted = c.requires; r_lt_relations = omega (arith, c.loop-k.invariant.0, c.loop-k-test.true) }
 
 pub returns-in-Refused : goal.returns-in-Refused
 returns-in-Refused c =

@@ -11,15 +11,15 @@ pub loop-r-init : goal.loop-r-init
 loop-r-init c = let a = c.args in (omega arith, refl, loaded-none (book_in a.book.now a.h).arities (drop a.at a.list.now))
 
 pub arity_of-many-requires : goal.arity_of-many-requires
-arity_of-many-requires c = record { book_value = c.requires.book_value; r_lt_relations = omega (arith, c.wide-n.ensures.0) }
+arity_of-many-requires c = record { accepted = c.requires.accepted; r_lt_relations = omega (arith, c.wide-n.ensures.0) }
 
 -- the relation that the loop is at, and what its places and the later ones take
 module _ (c : In-loop-r) where
   below : c.loop-r.r < length (book_in c.args.book.now c.args.h).arities
-  below = omega (arith, relations-are c.args.book.now c.args.h c.requires.book_value, c.wide-n.ensures.0)
+  below = omega (arith, relations-are c.args.book.now c.args.h c.requires.accepted, c.wide-n.ensures.0)
 
   few : c.loop-r.r < 16
-  few = omega (arith, relations-few c.args.book.now c.args.h c.requires.book_value, c.wide-n.ensures.0)
+  few = omega (arith, relations-few c.args.book.now c.args.h c.requires.accepted, c.wide-n.ensures.0)
 
   places : sum (drop c.loop-r.r (book_in c.args.book.now c.args.h).arities)
       ≡ get_or (book_in c.args.book.now c.args.h).arities c.loop-r.r 0 + sum (drop (c.loop-r.r + 1) (book_in c.args.book.now c.args.h).arities)
@@ -34,11 +34,11 @@ bounds-rows-r c = few (goal.at.bounds-rows-r c).In-loop-r
 pub load-requires : goal.load-requires
 load-requires c =
     let m = c.arity_of-many.ensures in
-    (omega (arith, m.1), omega (arith, places (goal.at.load-requires c).In-loop-r, m.0, c.requires.h_in_bounds))
+    (omega (arith, m.1), omega (arith, places (goal.at.load-requires c).In-loop-r, m.0, c.requires.fits))
 
 pub overflow_add-p : goal.overflow_add-p
 overflow_add-p c =
-    record { fits = omega (arith, places (goal.at.overflow_add-p c).In-loop-r, c.arity_of-many.ensures.0, c.requires.h_in_bounds) }
+    record { fits = omega (arith, places (goal.at.overflow_add-p c).In-loop-r, c.arity_of-many.ensures.0, c.requires.fits) }
 
 pub loop-r-preserved : goal.loop-r-preserved
 loop-r-preserved c =
@@ -47,13 +47,13 @@ loop-r-preserved c =
     let l = drop a.at a.list.now in
     let t = c.loop-r in
     let m = c.arity_of-many in
-    let fits : t.p + m.result ≤ length a.list.now = omega (arith, places (goal.at.loop-r-preserved c).In-loop-r, m.ensures.0, c.requires.h_in_bounds) in
+    let fits : t.p + m.result ≤ length a.list.now = omega (arith, places (goal.at.loop-r-preserved c).In-loop-r, m.ensures.0, c.requires.fits) in
     let v = take m.result (drop t.p a.list.now) in
     let long : length v ≡ m.result = length-take-le m.result (drop t.p a.list.now) (rw length-drop (omega arith)) in
     let is : v ≡ get_or (cut ns l) t.r [] = rw m.ensures.0 (load_row ns l a.list.now a.at t.p t.r refl t.invariant.1 (below (goal.at.loop-r-preserved c).In-loop-r)) in (
       omega arith,
       omega (arith, places (goal.at.loop-r-preserved c).In-loop-r, m.ensures.0),
-      rw (c.load.ensures, t.invariant.2) (loaded-more ns l t.r (below (goal.at.loop-r-preserved c).In-loop-r) (arities-few a.book.now a.h c.requires.book_value) v is (omega (arith, m.ensures.1))),
+      rw (c.load.ensures, t.invariant.2) (loaded-more ns l t.r (below (goal.at.loop-r-preserved c).In-loop-r) (arities-few a.book.now a.h c.requires.accepted) v is (omega (arith, m.ensures.1))),
     )
 
 pub returns : goal.returns
@@ -62,4 +62,4 @@ returns c =
     let t = c.loop-r in
     t.invariant.2
     ∙ loaded-all (book_in a.book.now a.h).arities (drop a.at a.list.now) t.r
-    (omega (arith, relations-are a.book.now a.h c.requires.book_value, c.wide-n.ensures.0))
+    (omega (arith, relations-are a.book.now a.h c.requires.accepted, c.wide-n.ensures.0))

@@ -9,18 +9,18 @@ use Rattle.state.proofs.places_differ.Goals.{In-loop-r}
 use Rattle.state.proofs.places_differ.Goals as goal
 
 pub loop-r-init : goal.loop-r-init
-loop-r-init c = (omega arith, c.requires.h_in_bounds, refl)
+loop-r-init c = (omega arith, c.requires.fits, refl)
 
 pub arity_of-many-requires : goal.arity_of-many-requires
-arity_of-many-requires c = record { book_value = c.requires.book_value; r_lt_relations = omega (arith, c.wide-n.ensures.0) }
+arity_of-many-requires c = record { accepted = c.requires.accepted; r_lt_relations = omega (arith, c.wide-n.ensures.0) }
 
 -- the relation that the loop is at, and what its places and the later ones take
 module _ (c : In-loop-r) where
   below : c.loop-r.r < length (book_in c.args.book.now c.args.h).arities
-  below = omega (arith, relations-are c.args.book.now c.args.h c.requires.book_value, c.wide-n.ensures.0)
+  below = omega (arith, relations-are c.args.book.now c.args.h c.requires.accepted, c.wide-n.ensures.0)
 
   few : c.loop-r.r < 16
-  few = omega (arith, relations-few c.args.book.now c.args.h c.requires.book_value, c.wide-n.ensures.0)
+  few = omega (arith, relations-few c.args.book.now c.args.h c.requires.accepted, c.wide-n.ensures.0)
 
   places : sum (drop c.loop-r.r (book_in c.args.book.now c.args.h).arities)
       ≡ get_or (book_in c.args.book.now c.args.h).arities c.loop-r.r 0 + sum (drop (c.loop-r.r + 1) (book_in c.args.book.now c.args.h).arities)
@@ -70,4 +70,4 @@ returns c =
     let t = c.loop-r in
     via t.invariant.2
     (places-none (book_in a.book.now a.h).arities t.r a.rows.now a.list.now t.p
-    (omega (arith, relations-are a.book.now a.h c.requires.book_value, c.wide-n.ensures.0)) refl)
+    (omega (arith, relations-are a.book.now a.h c.requires.accepted, c.wide-n.ensures.0)) refl)

@@ -8,7 +8,7 @@ pub loop-r-init : goal.loop-r-init
 loop-r-init c = (omega arith, omega arith, refl)
 
 pub arity_of-total-requires : goal.arity_of-total-requires
-arity_of-total-requires c = record { book_value = c.requires; r_lt_relations = omega (arith, c.wide-n.ensures.0) }
+arity_of-total-requires c = record { accepted = c.requires; r_lt_relations = omega (arith, c.wide-n.ensures.0) }
 
 pub overflow_add-total : goal.overflow_add-total
 overflow_add-total c =

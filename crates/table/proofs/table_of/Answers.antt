@@ -9,7 +9,7 @@ loop-k-init c =
     (refl, w.count, omega arith, λ j b. absurd (let z : ⊥ = omega arith in z))
 
 pub row_of-requires : goal.row_of-requires
-row_of-requires c = record { book_value = c.requires; fits = row_fits _ _ c.requires _ _ c.«record».ensures }
+row_of-requires c = record { accepted = c.requires; fits = row_fits _ _ c.requires _ _ c.«record».ensures }
 
 pub loop-k-preserved : goal.loop-k-preserved
 loop-k-preserved c =

@@ -19,16 +19,16 @@ use Rattle.trace.proofs.walk.Goals as goal
 
 pub first_places-rows-requires : goal.first_places-rows-requires
 first_places-rows-requires c =
-    record { book_value = c.requires.tabled.good; h_in_bounds = omega (arith, c.wide.ensures.0, size_is c.args.book.now c.args.h c.requires.tabled.good, c.requires.sized.is, c.requires.size_in_bounds) }
+    record { accepted = c.requires.tabled.good; fits = omega (arith, c.wide.ensures.0, size_is c.args.book.now c.args.h c.requires.tabled.good, c.requires.sized.is, c.requires.fits) }
 
 pub loop-i-init : goal.loop-i-init
 loop-i-init c =
     let a = c.args in (
       refl,
       search rules,
-      c.requires.size_in_bounds,
+      c.requires.fits,
       ap (λ (σ : State meant.flags). told (walk_due (book_in a.book.now a.h) meant.flags (goal a.relation a.values.now) a.list.now a.size σ))
-          (state-start a.book.now a.h a.list.now _ _ c.requires.tabled.good c.wide.ensures.0 (omega (arith, c.requires.sized.is, c.requires.size_in_bounds)) c.first_places-rows.ensures),
+          (state-start a.book.now a.h a.list.now _ _ c.requires.tabled.good c.wide.ensures.0 (omega (arith, c.requires.sized.is, c.requires.fits)) c.first_places-rows.ensures),
     )
 
 pub step_at-n-requires : goal.step_at-n-requires
@@ -109,7 +109,7 @@ pub overflow_add-at-in-loop-i : goal.overflow_add-at-in-loop-i
 overflow_add-at-in-loop-i c = record { fits = omega (arith, fits (goal.at.overflow_add-at-in-loop-i c).After-number_at-k c.cell-in-loop-i.ensures.0, c.well_formed) }
 
 pub differs-d-requires : goal.differs-d-requires
-differs-d-requires c = record { book_value = c.requires.tabled.good; flags_in_bounds = omega (arith, fits (goal.at.differs-d-requires c).After-number_at-k c.cell-in-loop-i.ensures.0, c.requires.sized.is) }
+differs-d-requires c = record { accepted = c.requires.tabled.good; fits = omega (arith, fits (goal.at.differs-d-requires c).After-number_at-k c.cell-in-loop-i.ensures.0, c.requires.sized.is) }
 
 pub overflow_add-at-in-loop-i-2 : goal.overflow_add-at-in-loop-i-2
 overflow_add-at-in-loop-i-2 c = record { fits = omega (arith, fits (goal.at.overflow_add-at-in-loop-i-2 c).After-number_at-k c.cell-in-loop-i.ensures.0, c.well_formed) }
@@ -143,7 +143,7 @@ loop-i-preserved c =
     )
 
 pub ended-requires : goal.ended-requires
-ended-requires c = let p = c.requires in record { book_value = p.tabled.good; relation_lt_relations = p.relation_lt_relations }
+ended-requires c = let p = c.requires in record { accepted = p.tabled.good; relation_lt_relations = p.relation_lt_relations }
 
 pub returns : goal.returns
 returns c =
