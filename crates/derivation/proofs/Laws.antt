@@ -16,9 +16,7 @@ use Rattle.meaning.specs.Book.{Book, Fact, head, body}
 use Rattle.cursor.specs.Steps.{pick}
 use Rattle.lists.specs.Compare.{eq_vals, same}
 use Rattle.reply.specs.declared.Refusal.{Refusal}
-use Rattle.reply.specs.declared.Answer as code
-use Rattle.reply.specs.declared.Answer.TheVariants.{Done, Refused}
-use Rattle.reply.specs.Answer.{Answer, done, refused, ok, number, need, and_then, refuse, told}
+use Rattle.reply.specs.Answer.{Answer, done, refused, ok, number, need, and_then, refuse, told, Outcome}
 use Rattle.reply.specs.Among.{Among, told-done, told-no}
 use Rattle.lists.specs.Instance.{clause_at, step_at, judge}
 use Rattle.lists.specs.Derivation.{goal, judge_step, check, check_derivation}
@@ -40,6 +38,7 @@ use Rattle.instance.proofs.Laws.{number_is, instance-room, out-whole}
 use Rattle.instance.proofs.Atoms.{row-vars, head_at, head-there, head-below, head-full, body-none, body_at, body-there, body_below}
 use Rattle.derivation.specs.Step.{fact_after, Stood}
 use Rattle.derivation.specs.Answer.{counted}
+use Rattle.std.specs.Prelude.{Ok, Err}
 
 -- ---- what is remembered
 
@@ -169,14 +168,14 @@ module _ {s : List ℕ} {h : Header} {t : List (List ℕ)} (w : Tabled s h t) (f
     abbrev o : Option Fact
     o = fact_after the_book l last since
 
-    pub going_done : {r : Bool} {x : code.Answer} → length l ≤ i → r ≡ same o (some f) → r ≡ true → x ≡ Done c → x ≡ told (counted (check the_book f l) (length (derivation_steps the_book l)))
+    pub going_done : {r : Bool} {x : Outcome} → length l ≤ i → r ≡ same o (some f) → r ≡ true → x ≡ Ok c → x ≡ told (counted (check the_book f l) (length (derivation_steps the_book l)))
     unfolding told counted need
     going_done b q e z =
         let n : count_due the_book l i ≡ 0 = count-due-none the_book l i b in
         let m : c ≡ length (derivation_steps the_book l) = omega (arith, g.same-steps) in
         rw (← g.same-due, due-none the_book f l i o b, sym q ∙ e, ← m) z
 
-    pub going-missed : {r : Bool} {x : code.Answer} → length l ≤ i → r ≡ same o (some f) → r ≡ false → x ≡ Refused (refuse 17 (length l))
+    pub going-missed : {r : Bool} {x : Outcome} → length l ≤ i → r ≡ same o (some f) → r ≡ false → x ≡ Err (refuse 17 (length l))
         → x ≡ told (counted (check the_book f l) (length (derivation_steps the_book l)))
     unfolding told counted need
     going-missed b q e z =
@@ -192,7 +191,7 @@ module _ {s : List ℕ} {h : Header} {t : List (List ℕ)} (w : Tabled s h t) (f
       unfolding judge_step
       going-whole z = out-whole s h l i 0 _ w.good there (sym e ∙ z)
 
-      pub going-stop : {p : ℕ} {x : code.Answer} → (n ≡ 0 → ⊥) → p ≡ refusal_place the_book (number_in s h l i) (drop (i + 1) l) i n → x ≡ Refused (refuse n p)
+      pub going-stop : {p : ℕ} {x : Outcome} → (n ≡ 0 → ⊥) → p ≡ refusal_place the_book (number_in s h l i) (drop (i + 1) l) i n → x ≡ Err (refuse n p)
           → x ≡ told (counted (check the_book f l) (length (derivation_steps the_book l)))
       unfolding told counted and_then judge_step
       going-stop z q y = rw (← g.same-due, due-more the_book f l i o there, enabled-refused the_book (number_in s h l i) 0 (drop (i + 1) l) i _ n (sym e) z, ← q) y
@@ -232,12 +231,12 @@ module _ {s : List ℕ} {h : Header} {t : List (List ℕ)} (w : Tabled s h t) (f
 
 -- ---- one part of the answer after another
 
-module _ (a b : Answer) (n : ℕ) {x y : code.Answer} where
-  pub counted_stop : {g : Refusal} → y ≡ told a → y ≡ Refused g → x ≡ Refused g → x ≡ told (counted (and_then a b) n)
+module _ (a b : Answer) (n : ℕ) {x y : Outcome} where
+  pub counted_stop : {g : Refusal} → y ≡ told a → y ≡ Err g → x ≡ Err g → x ≡ told (counted (and_then a b) n)
   unfolding told and_then counted
   counted_stop {g} p q e = rw (told-no a g (sym p ∙ q)) e
 
-  pub counted-on : {m : ℕ} → y ≡ told a → y ≡ Done m → x ≡ told (counted b n) → x ≡ told (counted (and_then a b) n)
+  pub counted-on : {m : ℕ} → y ≡ told a → y ≡ Ok m → x ≡ told (counted b n) → x ≡ told (counted (and_then a b) n)
   unfolding and_then
   counted-on p q e = rw (told-done a (sym p ∙ q)) e
 
@@ -245,22 +244,22 @@ pub ruleset counting = (counted_stop, counted-on)
 
 -- ---- the check's own answer has no steps in it
 
-module _ (a : Answer) (n : ℕ) {x y : code.Answer} where
-  pub plain-stop : {g : Refusal} → y ≡ told (counted a n) → y ≡ Refused g → x ≡ Refused g → x ≡ told a
+module _ (a : Answer) (n : ℕ) {x y : Outcome} where
+  pub plain-stop : {g : Refusal} → y ≡ told (counted a n) → y ≡ Err g → x ≡ Err g → x ≡ told a
   unfolding told counted
   plain-stop {g} p q e = go a (sym p ∙ q)
     where
-      go : (a : Answer) → told (counted a n) ≡ Refused g → x ≡ told a
+      go : (a : Answer) → told (counted a n) ≡ Err g → x ≡ told a
       go (done m) z = absurd (let u : ◌≡◌ {A = ℕ} 0 1 = cc in let v : ⊥ = omega arith in v)
       go (refused m i) z = e ∙ sym z
 
-  plain_done : {ns : List ℕ} {m : ℕ} → Among ns a → y ≡ told (counted a n) → y ≡ Done m → x ≡ Done 0 → x ≡ told a
+  plain_done : {ns : List ℕ} {m : ℕ} → Among ns a → y ≡ told (counted a n) → y ≡ Ok m → x ≡ Ok 0 → x ≡ told a
   unfolding told counted
   plain_done {ns} {m} w p q e = go a w (sym p ∙ q)
     where
-      go : (a : Answer) → Among ns a → told (counted a n) ≡ Done m → x ≡ told a
-      go (done i) v z = e ∙ sym (ap Done (v.plain refl))
+      go : (a : Answer) → Among ns a → told (counted a n) ≡ Ok m → x ≡ told a
+      go (done i) v z = e ∙ sym (ap Ok (v.plain refl))
       go (refused i j) v z = absurd (let u : ◌≡◌ {A = ℕ} 0 1 = cc in let v : ⊥ = omega arith in v)
 
-pub check_done : (b : Book) (r : ℕ) (vs l : List ℤ) (n : ℕ) {x y : code.Answer} {m : ℕ} → y ≡ told (counted (check_derivation b r vs l) n) → y ≡ Done m → x ≡ Done 0 → x ≡ told (check_derivation b r vs l)
+pub check_done : (b : Book) (r : ℕ) (vs l : List ℤ) (n : ℕ) {x y : Outcome} {m : ℕ} → y ≡ told (counted (check_derivation b r vs l) n) → y ≡ Ok m → x ≡ Ok 0 → x ≡ told (check_derivation b r vs l)
 check_done b r vs l n p q e = plain_done (check_derivation b r vs l) n (among-derivation b r vs l) p q e

@@ -21,7 +21,6 @@ use Rattle.lists.specs.Laws.{judge-exact}
 use Rattle.book.specs.declared.Header.{Header}
 use Rattle.book.specs.declared.Window as codes
 use Rattle.book.specs.Windows.{Windowed, window_of}
-use Rattle.book.specs.declared.Reading.TheVariants.{Good}
 use Rattle.book.specs.Read.{read}
 use Rattle.book.specs.Meaning.{book_in}
 use Rattle.book.specs.Joined.{count-is}
@@ -29,6 +28,7 @@ use Rattle.cursor.specs.Meaning.{tree_in}
 use Rattle.cursor.specs.Sound.{IsTree}
 use Rattle.table.specs.Table.{Tabled}
 use Rattle.instance.specs.Values.{number_or, number_in, Whole, values_at, Valued}
+use Rattle.std.specs.Prelude.{Ok}
 
 -- ---- two lists of values, compared from number j on
 
@@ -185,7 +185,7 @@ module _ (b : Book) (c : Clause) (more : ℕ) (l : List ℤ) (i : ℕ) where
 
 -- ---- the clause that a list's number names
 
-module _ (s : List ℕ) (h : Header) (good : read s ≡ Good h) (l : List ℤ) (i : ℕ) {k : ℕ} (q : k ≡ number_or h.count (get_or l i (pos 0))) where
+module _ (s : List ℕ) (h : Header) (good : read s ≡ Ok h) (l : List ℤ) (i : ℕ) {k : ℕ} (q : k ≡ number_or h.count (get_or l i (pos 0))) where
   pub number_is : number_in s h l i ≡ k
   unfolding clause_number number_or
   number_is = go (get_or l i (pos 0)) ∙ sym q
@@ -260,7 +260,7 @@ out-after i q true true t₃ t₄ t₅ e = (refl, refl)
 out-after i q true false t₃ t₄ t₅ e = absurd (let z : ⊥ = omega arith in z)
 out-after i q false t₂ t₃ t₄ t₅ e = absurd (let z : ⊥ = omega arith in z)
 
-pub out-whole : (s : List ℕ) (h : Header) (l : List ℤ) (i more : ℕ) (met : Bool) → read s ≡ Good h → i < length l
+pub out-whole : (s : List ℕ) (h : Header) (l : List ℤ) (i more : ℕ) (met : Bool) → read s ≡ Ok h → i < length l
     → number (judge_enabled (book_in s h) (number_in s h l i) more (drop (i + 1) l) i met) ≡ 14 → Whole s h l i
 unfolding judge_enabled judge judge_clause
 out-whole s h l i more met good there e =
@@ -299,7 +299,7 @@ unfolding and_then
 number-stop (done m) y n = absurd (n refl)
 number-stop (refused m i) y n = refl
 
-module _ (s : List ℕ) (h : Header) (good : read s ≡ Good h) (l : List ℤ) (i more : ℕ) {n : ℕ} (e : n ≡ number (judge (book_in s h) (number_in s h l i) more (drop (i + 1) l) i)) where
+module _ (s : List ℕ) (h : Header) (good : read s ≡ Ok h) (l : List ℤ) (i more : ℕ) {n : ℕ} (e : n ≡ number (judge (book_in s h) (number_in s h l i) more (drop (i + 1) l) i)) where
   -- it is refused
   pub enabled-stop : (met : Bool) → (n ≡ 0 → ⊥) → n ≡ number (judge_enabled (book_in s h) (number_in s h l i) more (drop (i + 1) l) i met)
   unfolding judge_enabled
