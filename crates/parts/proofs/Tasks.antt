@@ -7,14 +7,12 @@ use mathlib.Core.Bool.{Bool, true, false, ◌&&◌}
 use mathlib.Core.List.{List, [], ◌∷◌, map}
 use lib.ListN.{length, get_or, take, drop, replicate, length-take, get_or-map}
 use lib.Seq.{get_or-take, get_or-drop}
-use lib.Dec.{eqb}
 use lib.IntN.{ℤ, pos}
-use borrow.Author.Tests.{lt-ltb, eqb-false}
-use Rattle.meaning.specs.Constraint.{truth, holds}
+use borrow.Author.Tests.{eq-eqb, ne_eqb}
+use Rattle.meaning.specs.Constraint.{truth}
 use Rattle.meaning.specs.Book.{at, at_body, head, body}
 use Rattle.cursor.specs.declared.Clause.{Clause}
 use Rattle.cursor.specs.Steps.{pick}
-
 use Rattle.cursor.specs.Meaning.{atom_in, body_in, tree_in, clause_in}
 use Rattle.cursor.specs.Sound.{Sound, Arguments}
 use Rattle.truth.specs.Front.{front-part, front-arguments, front-is-tree, front-tree}
@@ -28,7 +26,7 @@ use Rattle.models.specs.Walk.{step, satisfies, met, breaks}
 use Rattle.models.specs.Answer.{no_part}
 use Rattle.models.specs.Passed.{IsPart, parts-start, pass-moved}
 use Rattle.parts.specs.declared.Task.{Task}
-use Rattle.parts.specs.Task.{places_of, met_in, head_in, breaks_in, Side, Ready, half_of, Taken, Tasked, Started, rules_in}
+use Rattle.parts.specs.Task.{places_of, true_in, met_in, breaks_in, Side, SideBody, Ready, half_of, body_of, Taken, Tasked, Started, rules_in}
 use Rattle.std.specs.Prelude.{Ok}
 
 -- ---- lists
@@ -77,9 +75,9 @@ module _ (s : List ℕ) (h : Header) (good : read s ≡ Ok h) where
     unfolding rules_of
     rule-of r = rw read-parts.1 (get_or-map (λ (p : Part). p.rule) read-parts.0 r no_part)
 
-    half_is : (r : ℕ) → r < h.relations → half_of s h l r ≡ record { places = get_or s r 0; rule = get_or l r 0 }
-    unfolding half_of pick
-    half_is r b = rw (lt-ltb r h.relations b, arity-is s h good r b)
+    half_is : (r p : ℕ) → r < h.relations → half_of s h l r p ≡ record { seat = p; places = get_or s r 0; rule = get_or l r 0 }
+    unfolding half_of
+    half_is r p b = rw (arity-is s h good r b)
 
     front-is : (r : ℕ) → r < h.relations → get_or front r 0 ≡ get_or s r 0
     front-is r b = let k = (read-trailed s h good).kept in get_or-take h.start s r 0 (omega arith)
@@ -91,17 +89,17 @@ module _ (s : List ℕ) (h : Header) (good : read s ≡ Ok h) where
       arguments : Arguments s v (seat + 1) (get_or s r 0)
       arguments = front-arguments s h.start v (seat + 1) (get_or s r 0) read-arguments
 
-      side : Side s 16 t seat (get_or s r 0) (get_or l r 0)
+      side : Side s 16 t (half_of s h l r seat)
       side =
           let p = part_of r b in
-          record { small = arity-small s h good r b; arguments = arguments-more s v 16 (seat + 1) (get_or s r 0) few arguments; tree = rw p.start p.tree }
+          rw (half_is r seat b) (record { small = arity-small s h good r b; arguments = arguments-more s v 16 (seat + 1) (get_or s r 0) few arguments; tree = rw p.start p.tree })
 
-      side-holds : (vs : List ℤ) → holds (places_of s seat (get_or s r 0) vs) (tree_in t (get_or s r 0) (get_or l r 0)) ≡ satisfies (rules_in t ns) (at (take v vs) (atom_in front r seat))
-      unfolding satisfies atom_in places_of
-      side-holds vs =
+      side-true : (vs : List ℤ) → true_in s t (half_of s h l r seat) vs ≡ satisfies (rules_in t ns) (at (take v vs) (atom_in front r seat))
+      unfolding satisfies atom_in places_of true_in
+      side-true vs =
           let p = part_of r b in
           let e : get_or (rules_in t ns) r truth ≡ tree_in t (get_or s r 0) (get_or l r 0) = rule-of r ∙ p.is ∙ ap (tree_in t (get_or s r 0)) (sym p.start) in
-          rw (front-is r b, e, front-part s h.start (seat + 1) (get_or s r 0) read-arguments.within, places-front s v seat (get_or s r 0) vs arguments)
+          rw (half_is r seat b, front-is r b, e, front-part s h.start (seat + 1) (get_or s r 0) read-arguments.within, places-front s v seat (get_or s r 0) vs arguments)
 
     -- ---- the task of a clause
 
@@ -115,43 +113,36 @@ module _ (s : List ℕ) (h : Header) (good : read s ≡ Ok h) where
       few : c.variables ≤ 16
       few = let z : c.variables < 17 = so.few in omega arith
 
-      head-half : k.head ≡ record { places = get_or s c.head 0; rule = get_or l c.head 0 }
-      head-half = w.head ∙ half_is c.head so.head
+      -- a relation that is there is not 255
+      some-relation : (r : ℕ) → r < h.relations → r ≡ 255 → ⊥
+      some-relation r b e = let k = (read-trailed s h good).kept in omega arith
 
-      -- there is a body
-      bodied : (c.body ≡ 255 → ⊥) → (c.body < h.relations) × Arguments front c.variables (c.body_at + 1) (get_or front c.body 0)
-      bodied n = go so.body
-        where
-          go : (c.body ≡ 255) ⊎ ((c.body < h.relations) × Arguments front c.variables (c.body_at + 1) (get_or front c.body 0)) →
-              (c.body < h.relations) × Arguments front c.variables (c.body_at + 1) (get_or front c.body 0)
-          go (inl e) = absurd (n e)
-          go (inr x) = x
-
-      body-half : (c.body ≡ 255 → ⊥) → k.body ≡ record { places = get_or s c.body 0; rule = get_or l c.body 0 }
-      body-half n = w.body ∙ half_is c.body (bodied n).0
+      side-body : (c.body ≡ 255) ⊎ ((c.body < h.relations) × Arguments front c.variables (c.body_at + 1) (get_or front c.body 0)) →
+          SideBody s 16 t (body_of s h l c.body c.body_at)
+      unfolding body_of pick
+      side-body (inl e) = rw (eq-eqb c.body 255 e) tt
+      side-body (inr (b, a)) = rw (ne_eqb c.body 255 (some-relation c.body b)) (side c.variables c.body c.body_at few b a)
 
       pub ready : Ready s 16 t k
       ready = record {
         few = few;
         room = few;
         rule = front-is-tree s h.start c.variables c.rule so.tree;
-        body = λ n. rw (body-half n) (side c.variables c.body c.body_at few (bodied n).0 (bodied n).1);
-        head = rw head-half (side c.variables c.head c.head_at few so.head so.arguments);
+        body = rw w.body (side-body so.body);
+        head = rw w.head (side c.variables c.head c.head_at few so.head so.arguments);
       }
 
-      met-is : (vs : List ℤ) → met_in s t k vs ≡ met (rules_in t ns) (at_body (take c.variables vs) (body_in front c.body c.body_at))
-      unfolding met_in body_in met pick
-      met-is vs = go (eqb c.body 255) refl
-        where
-          go : (e : Bool) → eqb c.body 255 ≡ e → met_in s t k vs ≡ met (rules_in t ns) (at_body (take c.variables vs) (body_in front c.body c.body_at))
-          go true e = rw e
-          go false e =
-              let n = eqb-false c.body 255 e in
-              rw (e, body-half n) (side-holds c.variables c.body c.body_at few (bodied n).0 (bodied n).1 vs)
+      met-body : (vs : List ℤ) → (c.body ≡ 255) ⊎ ((c.body < h.relations) × Arguments front c.variables (c.body_at + 1) (get_or front c.body 0)) →
+          met_in s t (body_of s h l c.body c.body_at) vs ≡ met (rules_in t ns) (at_body (take c.variables vs) (body_in front c.body c.body_at))
+      unfolding met_in body_of body_in met pick
+      met-body vs (inl e) = rw (eq-eqb c.body 255 e)
+      met-body vs (inr (b, a)) = rw (ne_eqb c.body 255 (some-relation c.body b)) (side-true c.variables c.body c.body_at few b a vs)
 
-      head-is : (vs : List ℤ) → head_in s t k vs ≡ satisfies (rules_in t ns) (at (take c.variables vs) (atom_in front c.head c.head_at))
-      unfolding head_in
-      head-is vs = rw head-half (side-holds c.variables c.head c.head_at few so.head so.arguments vs)
+      met-is : (vs : List ℤ) → met_in s t k.body vs ≡ met (rules_in t ns) (at_body (take c.variables vs) (body_in front c.body c.body_at))
+      met-is vs = rw w.body (met-body vs so.body)
+
+      head-is : (vs : List ℤ) → true_in s t k.head vs ≡ satisfies (rules_in t ns) (at (take c.variables vs) (atom_in front c.head c.head_at))
+      head-is vs = rw w.head (side-true c.variables c.head c.head_at few so.head so.arguments vs)
 
       both : (x y : Bool) → pick x y false ≡ x && y
       unfolding pick
