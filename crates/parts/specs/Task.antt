@@ -1,9 +1,10 @@
 -- A model that was read, and one clause with the model's constraints of its body and head, by where they stand: what the code asks of them, and what they mean.
-use Rattle.std.specs.Prelude.{ℕ, ◌+◌, ◌≤◌, ◌≡◌, Bool, true, false, not, List, map, length, get_or, take, drop, replicate, eqb, ℤ, pos, Result, Ok, Option, Some, None}
+use Rattle.std.specs.Prelude.{ℕ, ◌+◌, ◌<◌, ◌≤◌, ◌≡◌, Bool, true, false, not, List, map, get_or, take, drop, replicate, eqb, ℤ, pos, Result, Ok, Option, Some, None}
 use Rattle.meaning.specs.Constraint.{Constraint, holds}
 use Rattle.reply.specs.declared.Refusal.{Refusal}
 use Rattle.reply.specs.Then.{◌>>=◌, went, no_err}
 use Rattle.cursor.specs.declared.Cursor.{Cursor}
+use Rattle.cursor.specs.declared.Clause.{Clause}
 use Rattle.cursor.specs.Steps.{pick}
 use Rattle.cursor.specs.Meaning.{tree_in}
 use Rattle.cursor.specs.Sound.{Arguments, IsTree}
@@ -11,9 +12,7 @@ use Rattle.book.specs.declared.Header.{Header}
 use Rattle.book.specs.Meaning.{book_in}
 use Rattle.book.specs.Joined.{Held}
 use Rattle.models.specs.Read.{model_in, rules_of, pass_at, starts_at}
-use Rattle.models.specs.Walk.{step, breaks}
 use Rattle.parts.specs.declared.Half.{Half}
-use Rattle.parts.specs.declared.Task.{Task}
 
 -- ---- the model that was read
 
@@ -57,10 +56,11 @@ unfoldable pub met_in : List ℕ → List ℕ → Option Half → List ℤ → B
 met_in s t None vs = true
 met_in s t (Some a) vs = true_in s t a vs
 
-unfoldable pub breaks_in : List ℕ → List ℕ → Task → List ℤ → Bool
-breaks_in s t k vs =
-    pick (holds (take k.clause.variables vs) (tree_in s k.clause.variables k.clause.rule))
-    (pick (met_in s t k.body vs) (not (true_in s t k.head vs)) false)
+-- whether the values break the model at the clause c, with this body and head
+unfoldable pub breaks_in : List ℕ → List ℕ → Clause → Option Half → Half → List ℤ → Bool
+breaks_in s t c b a vs =
+    pick (holds (take c.variables vs) (tree_in s c.variables c.rule))
+    (pick (met_in s t b vs) (not (true_in s t a vs)) false)
     false
 
 -- the arguments after the half's seat are numbers of m values, and a constraint over as many variables starts there in t
@@ -74,13 +74,6 @@ abbrev pub SideBody : List ℕ → ℕ → List ℕ → Option Half → Type 0
 SideBody s m t None = Unit {0}
 SideBody s m t (Some a) = Side s m t a
 
-pub record Ready (s : List ℕ) (m : ℕ) (t : List ℕ) (k : Task) : Type 0 where
-  pub few : k.clause.variables ≤ 16
-  pub room : k.clause.variables ≤ m
-  pub rule : IsTree s k.clause.variables k.clause.rule
-  pub body : SideBody s m t k.body
-  pub head : Side s m t k.head
-
 -- relation r of the book, whose number stands at p, in a model with these starts
 unfoldable pub half_of : List ℕ → Header → List ℕ → ℕ → ℕ → Half
 half_of s h l r p = record { seat = p; places = get_or (book_in s h).arities r 0; rule = get_or l r 0 }
@@ -89,15 +82,9 @@ half_of s h l r p = record { seat = p; places = get_or (book_in s h).arities r 0
 unfoldable pub body_of : List ℕ → Header → List ℕ → ℕ → ℕ → Option Half
 body_of s h l r p = pick (eqb r 255) None (Some (half_of s h l r p))
 
--- the task k is put together from clause i of the book s
-pub record Taken (s : List ℕ) (h : Header) (i : ℕ) (l : List ℕ) (k : Task) : Type 0 where
-  pub held : Held s h i k.clause
-  pub body : k.body ≡ body_of s h l k.clause.body k.clause.body_at
-  pub head : k.head ≡ half_of s h l k.clause.head k.clause.head_at
-
--- the task k is that of clause i of the book s, with the model t
-pub record Tasked (s : List ℕ) (h : Header) (t : List ℕ) (i : ℕ) (k : Task) : Type 0 where
-  pub held : Held s h i k.clause
-  pub ready : Ready s 16 t k
-  pub means : (vs : List ℤ) → k.clause.variables ≤ length vs →
-      breaks_in s t k vs ≡ breaks (book_in s h) (rules_in t (book_in s h).arities) (step i (take k.clause.variables vs))
+-- what the task of clause i of the book s is put together from
+pub record Taken (s : List ℕ) (h : Header) (l : List ℕ) (i : ℕ) (c : Clause) (b : Option Half) (a : Half) : Type 0 where
+  pub below : i < h.count
+  pub is : (x : Clause) → Held s h i x → c ≡ x
+  pub body : b ≡ body_of s h l c.body c.body_at
+  pub head : a ≡ half_of s h l c.head c.head_at

@@ -5,10 +5,10 @@ ghost use Rattle.std.specs.Prelude.{◌≡◌, ◌+◌, ◌≤◌, length, take,
 ghost use Rattle.cursor.specs.Sound.{Arguments};
 ghost use Rattle.book.specs.Held.{meant};
 ghost use Rattle.models.specs.Read.{in_model, rule_at};
-ghost use Rattle.parts.specs.Task.{scan, places_of};
+ghost use Rattle.parts.specs.Task.{scan, places_of, Taken};
 
 use book::Book;
-use cursor::Cursor;
+use cursor::{Clause, Cursor};
 use reply::{Refusal, refuse};
 
 // A clause's head or body in a model: where its relation's number stands in the book, how many places the relation has, and where its constraint starts in the model.
@@ -19,14 +19,6 @@ pub struct Half {
     pub rule: usize,
 }
 
-// A clause, and its body and head in the model.
-#[derive(Clone, Copy)]
-pub struct Task {
-    pub clause: cursor::Clause,
-    pub body: Option<Half>,
-    pub head: Half,
-}
-
 // A model that was read: its book, its bytes, and where each relation's constraint starts in them.
 #[derive(Clone, Copy)]
 pub struct Model<'a> {
@@ -34,6 +26,17 @@ pub struct Model<'a> {
     pub bytes: &'a [u8],
     pub starts: [usize; 16],
     pub ghost read: { scan bytes.now (meant book).arities ≡ Ok starts },
+}
+
+// A clause of a model's book, and its body and head in the model.
+#[derive(Clone, Copy)]
+pub struct Task<'a> {
+    pub model: &'a Model<'a>,
+    pub number: usize,
+    pub clause: Clause,
+    pub body: Option<Half>,
+    pub head: Half,
+    pub ghost taken: { Taken model.now.book.bytes.now model.now.book.header model.now.starts number clause body head },
 }
 
 // ---- reading the model
@@ -89,7 +92,7 @@ fn gather(s: &[u8], seat: usize, n: u8, values: &[i32]) -> [i32; 8]
 
 impl<'a> Model<'a> {
     ghost use Rattle.std.specs.Prelude.{◌≡◌, ◌<◌, length};
-    ghost use Rattle.parts.specs.Task.{Side, SideBody, Ready, Taken, true_in, met_in, breaks_in, half_of, body_of};
+    ghost use Rattle.parts.specs.Task.{Side, SideBody, true_in, met_in, half_of, body_of};
     ghost use Rattle.parts.specs.Opened.{Opened};
 
     // Reads the whole model of a book.
@@ -131,12 +134,14 @@ impl<'a> Model<'a> {
     }
 
     // Clause k of the book, in the model.
-    pub fn task(&self, k: usize) -> Task
+    pub fn task(&'a self, k: usize) -> Task<'a>
         requires { k < self.now.book.header.count }
-        ensures { Taken self.now.book.bytes.now self.now.book.header k self.now.starts result }
+        ensures { (result.model.now ≡ self.now) × (result.number ≡ k) }
     {
         let clause = self.book.record(k);
         Task {
+            model: self,
+            number: k,
             clause,
             body: self.body(clause.body, clause.body_at),
             head: self.half(clause.head, clause.head_at),
@@ -166,16 +171,26 @@ impl<'a> Model<'a> {
             Some(a) => self.holds(a, values),
         }
     }
+}
+
+impl<'a> Task<'a> {
+    ghost use Rattle.std.specs.Prelude.{◌≡◌, ◌≤◌, length, take};
+    ghost use Rattle.models.specs.Walk.{step, breaks};
+    ghost use Rattle.parts.specs.Opened.{constraints};
 
     // Whether the assignment breaks the model: the clause's constraint is true, its body is met, and its head's is not true.
-    #[tactic(auto, unfolding(crate::specs::Task::breaks_in, cursor::specs::Steps::pick))]
-    pub fn breaks(&self, t: &Task, values: &[i32]) -> bool
-        requires { Ready self.now.book.bytes.now (length values.now) self.now.bytes.now t.now }
-        ensures { result ≡ breaks_in self.now.book.bytes.now self.now.bytes.now t.now values.now }
+    pub fn breaks(&self, values: &[i32]) -> bool
+        requires { self.now.clause.variables ≤ length values.now }
+        ensures { result ≡ breaks (meant self.now.model.now.book) (constraints self.now.model.now) (step self.now.number (take self.now.clause.variables values.now)) }
     {
-        let l = &t.clause;
-        truth::truth(self.book.bytes, l.rule, l.variables, values, 0)
-            && self.met(t.body, values)
-            && !self.holds(t.head, values)
+        let m = self.model;
+        truth::truth(
+            m.book.bytes,
+            self.clause.rule,
+            self.clause.variables,
+            values,
+            0,
+        ) && m.met(self.body, values)
+            && !m.holds(self.head, values)
     }
 }
