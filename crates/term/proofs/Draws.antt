@@ -11,12 +11,10 @@ use Rattle.cursor.specs.declared.Comparison.TheVariants.{AtMost, Equal}
 use Rattle.cursor.specs.declared.Remains.{Remains}
 use Rattle.cursor.specs.declared.Node.{Node}
 use Rattle.cursor.specs.declared.Node.TheVariants as nodes
-use Rattle.cursor.specs.declared.NodeStep.{NodeStep}
-use Rattle.cursor.specs.declared.NodeStep.TheVariants.{Got, Refused}
-use Rattle.cursor.specs.Steps.{node_then, byte_at, node_at}
+use Rattle.cursor.specs.Steps.{byte_at, node_at, Read}
 use Rattle.cursor.specs.Tree as trees
-use Rattle.cursor.specs.Tree.{got, then, sum_of, grow, tree_at}
-use Rattle.cursor.specs.Inverse.{byte-went, then-went, no-tree}
+use Rattle.cursor.specs.Tree.{sum_of, grow, tree_at}
+
 use Rattle.cursor.specs.Sound.{IsTree}
 use Rattle.cursor.specs.Meaning.{tree_of, tree_in}
 use Rattle.sexp.specs.Bytes.{bytes}
@@ -27,36 +25,38 @@ use Rattle.put.proofs.Laws.{join, one}
 use Rattle.script.specs.Terms.{constraint}
 use Rattle.term.specs.declared.Stand.{Stand}
 use Rattle.term.specs.Drawn.{compared_of, remains_of, Drawn, DrawnTwo}
+use Rattle.std.specs.Prelude.{Ok, Err}
+use Rattle.reply.specs.Then.{go_on, went, no_err}
 
 -- what is read is t, and reading ends at c
-drawn : {k : ℕ} {d e : List ℕ} {at : ℕ} {r : Stand} (t : Constraint) (c : Cursor) → r.next ≡ c → Shows d e at r.at (constraint k t) → Drawn k (got t c) d e at r
+drawn : {k : ℕ} {d e : List ℕ} {at : ℕ} {r : Stand} (t : Constraint) (c : Cursor) → r.next ≡ c → Shows d e at r.at (constraint k t) → Drawn k (Ok (t, c)) d e at r
 drawn {k} {d} {e} {at} {r} t c n u = record {
-  holds = λ t' c' q.
+  holds = λ (t', c') q.
       let same : t ≡ t' = cc in
       let end : c ≡ c' = cc in
       (rw same at u, n ∙ end);
 }
 
 -- nothing is read
-undrawn : {k : ℕ} {d e : List ℕ} {at : ℕ} {r : Stand} (y : trees.Got Constraint) → ((t : Constraint) (c : Cursor) → y ≡ got t c → ⊥) → Drawn k y d e at r
+undrawn : {k : ℕ} {d e : List ℕ} {at : ℕ} {r : Stand} (y : trees.Got Constraint) → ((t : Constraint) (c : Cursor) → y ≡ Ok (t, c) → ⊥) → Drawn k y d e at r
 undrawn y n = record { holds = λ t c q. absurd (n t c q) }
 
 module _ (k : ℕ) (s : List ℕ) (v depth : ℕ) (c : Cursor) {d e : List ℕ} {at : ℕ} {r : Stand} where
   pub draw-none : depth ≡ 0 → Drawn k (tree_at s v depth c) d e at r
   unfolding tree_at
-  draw-none h = rw h (undrawn _ (λ t f q. byte-went (byte_at s c) _ _ no-tree q (λ _ _ _ p. no-tree _ p)))
+  draw-none h = rw h (undrawn _ (λ t f q. went (byte_at s c) _ _ no_err q (λ (_, _) _ p. no_err _ p)))
 
-  pub draw-refused : {y : NodeStep} {f : Refusal} → (depth ≡ 0 → ⊥) → y ≡ node_at s v c → y ≡ Refused f → Drawn k (tree_at s v depth c) d e at r
-  unfolding tree_at node_then
+  pub draw-refused : {y : Read Node} {f : Refusal} → (depth ≡ 0 → ⊥) → y ≡ node_at s v c → y ≡ Err f → Drawn k (tree_at s v depth c) d e at r
+  unfolding tree_at go_on
   draw-refused {y} {f} h p q = by-depth depth h
     where
       by-depth : (n : ℕ) → (n ≡ 0 → ⊥) → Drawn k (tree_at s v n c) d e at r
       by-depth zero h = absurd (h refl)
-      by-depth (suc n) h = rw (sym p ∙ q) (undrawn _ (λ t g z. no-tree _ z))
+      by-depth (suc n) h = rw (sym p ∙ q) (undrawn _ (λ t g z. no_err _ z))
 
-  pub draw-node : {y : NodeStep} {n : Node} {next : Cursor} → (depth ≡ 0 → ⊥) → y ≡ node_at s v c → y ≡ Got n next →
+  pub draw-node : {y : Read Node} {n : Node} {next : Cursor} → (depth ≡ 0 → ⊥) → y ≡ node_at s v c → y ≡ Ok (n, next) →
       Drawn k (grow s v n (tree_at s v (depth - 1)) next) d e at r → Drawn k (tree_at s v depth c) d e at r
-  unfolding tree_at node_then
+  unfolding tree_at go_on
   draw-node {y} {n} {next} h p q u = by-depth depth h u
     where
       by-depth : (j : ℕ) → (j ≡ 0 → ⊥) → Drawn k (grow s v n (tree_at s v (j - 1)) next) d e at r → Drawn k (tree_at s v j c) d e at r
@@ -84,7 +84,7 @@ module _ (k : ℕ) (s : List ℕ) (v : ℕ) (n : Node) (read : Cursor → trees.
       r.next ≡ p.next → Drawn k (grow s v n read c) d e at r
   unfolding grow constraint onto
   draw-not {f} {g} {a} {p} h u x z q = rw h (record {
-    holds = λ t' c' y. then-went (read c) _ y (λ t i y₁ y₂.
+    holds = λ t' c' y. went (read c) _ y (λ t i y₁ y₂.
         let (shown, ends) = x.holds t i y₁ in
         (drawn (not t) i (q ∙ ends) (record { text = join u (one shown z) })).holds t' c' y₂);
   })
@@ -92,10 +92,10 @@ module _ (k : ℕ) (s : List ℕ) (v : ℕ) (n : Node) (read : Cursor → trees.
   -- two parts under the word that joins them
   module _ {f : List ℕ} {a : ℕ} (j : Constraint → Constraint → Constraint) (head : List ℕ)
       (says : (t u : Constraint) → constraint k (j t u) ≡ list (word head & constraint k t & constraint k u & end)) where
-    draw-two : Wrote d f at a (40 ∷ head) → DrawnTwo k read c f e a r → Drawn k (then (read c) (λ t i. then (read i) (λ u. got (j t u)))) d e at r
+    draw-two : Wrote d f at a (40 ∷ head) → DrawnTwo k read c f e a r → Drawn k (then (read c) (λ t i. then (read i) (λ u. ??got (j t u)))) d e at r
     unfolding onto
     draw-two u x = record {
-      holds = λ t' c' y. then-went (read c) _ y (λ t i y₁ y₂. then-went (read i) _ y₂ (λ t₂ i₂ y₃ y₄.
+      holds = λ t' c' y. went (read c) _ y (λ t i y₁ y₂. went (read i) _ y₂ (λ t₂ i₂ y₃ y₄.
           let (shown, ends) = x.holds t t₂ i i₂ y₁ y₃ in
           (drawn (j t t₂) i₂ ends (rw (says t t₂) (record { text = join u shown }))).holds t' c' y₄));
     }

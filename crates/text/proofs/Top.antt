@@ -4,13 +4,12 @@ use mathlib.Core.List.{List, [], ◌++◌}
 use Prim.Native.Nat.{ℕ, ◌≤◌, ◌<◌}
 use native.Mathlib.Omega.{arith}
 use lib.ListN.{length}
-use Rattle.reply.specs.declared.Answer as code
-use Rattle.reply.specs.declared.Answer.TheVariants.{Done, Refused}
-use Rattle.reply.specs.Answer.{ok, refuse, says}
+use Rattle.reply.specs.Answer.{ok, refuse, says, Outcome}
 use Rattle.reply.specs.Room.{written, Leaves, written-wrote}
 use Rattle.reply.proofs.Room.{written-needs}
 use Rattle.put.specs.Room.{top, Wrote}
 use Rattle.put.proofs.Laws.{paste-out, paste-front}
+use Rattle.std.specs.Prelude.{Ok, Err}
 
 -- t is the text: a first pass over an empty room wrote nothing and measured it
 module _ (t d : List ℕ) (small : length t ≤ top) {e : List ℕ} {m : ℕ} (w : Wrote [] e 0 m t) where
@@ -23,11 +22,11 @@ module _ (t d : List ℕ) (small : length t ≤ top) {e : List ℕ} {m : ℕ} (w
   room-size : length (e ++ d) ≡ length d
   room-size = ap (λ (x : List ℕ). length (x ++ d)) nothing
 
-  pub prints-short : {x : code.Answer} → length (e ++ d) < m → x ≡ Refused (refuse 9 m) → Leaves (written ok t d) x (e ++ d)
+  pub prints-short : {x : Outcome} → length (e ++ d) < m → x ≡ Err (refuse 9 m) → Leaves (written ok t d) x (e ++ d)
   unfolding says
   prints-short l q = rw (q, written-needs t d 0 (omega (arith, measured, room-size)), measured, nothing) (record { tells = refl; room = refl })
 
-  pub prints-written : {g : List ℕ} {r : ℕ} → m ≤ length (e ++ d) → Wrote (e ++ d) g 0 r t → Leaves (written ok t d) (Done m) g
+  pub prints-written : {g : List ℕ} {r : ℕ} → m ≤ length (e ++ d) → Wrote (e ++ d) g 0 r t → Leaves (written ok t d) (Ok m) g
   unfolding says
   prints-written l v =
       let k : length t ≤ length d = omega (arith, measured, room-size) in
