@@ -1,7 +1,7 @@
 -- The ways of a check's answer: a test, passed or failed; the goal and the list's length; one part of the answer after another.
 use Prim.Native.Nat.{ℕ, ◌<◌, ◌≤◌}
 use native.Mathlib.Omega.{arith}
-use mathlib.Core.Path.{◌≡◌, refl, sym, ◌∙◌}
+use mathlib.Core.Path.{◌≡◌, refl, sym, ap, ◌∙◌}
 use mathlib.Core.List.{List}
 use mathlib.Core.Bool.{Bool, true, false}
 use lib.ListN.{length, get_or}
@@ -19,7 +19,9 @@ use Rattle.book.specs.Read.{read}
 use Rattle.book.specs.Meaning.{book_in}
 use Rattle.book.specs.Arities.{relations-are}
 use Rattle.book.proofs.Calls.{calls}
-use Rattle.std.specs.Prelude.{Ok, Err}
+use Rattle.std.specs.Prelude.{Result, Ok, Err}
+use Rattle.std.specs.Result.{IsErr, IsErrAnd}
+use Rattle.std.proofs.lemmas.Result.{err_from_is_err_and}
 
 -- ---- a test, passed or failed
 
@@ -99,6 +101,11 @@ module _ (l : List ℤ) {x : Outcome} where
   list-fits z k e = need-lt 11 0 _ 0 (length l) (omega arith) (need-le 11 0 _ (length l) 1000000 k (ends-well e))
 
 pub ruleset lengths = (list-empty, list-long, list-fits)
+
+-- ---- where a refusal is handed on by `?`
+
+pub handed : {A E : Type 0} {f : E} (r : Result A E) → IsErr r × IsErrAnd r (λ e. e ≡ f) → r ≡ Err f
+handed r h = let (e, p, q) = err_from_is_err_and r h.1 in p ∙ ap Err q
 
 -- ---- one part of an answer after another
 

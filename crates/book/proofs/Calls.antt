@@ -10,9 +10,15 @@ use Rattle.reply.specs.Room.{Due, kept, Leaves, leaves}
 use Rattle.book.specs.declared.Header.{Header}
 use Rattle.book.specs.Read.{read, Reading}
 use Rattle.book.specs.Meaning.{book_in}
+use Rattle.book.specs.declared.held.Book as code
+use Rattle.book.specs.Held.{meant}
 use Rattle.book.specs.Answer.{answers}
 use Rattle.book.specs.OnBook.{on_book, by-refused, by-good}
 use Rattle.std.specs.Prelude.{Ok, Err}
+
+-- what a book that was read means is what its bytes hold
+pub means : {s : List ℕ} (c b : code.Book) → c ≡ b → b.bytes.now ≡ s → meant c ≡ book_in s b.header
+means c b p q = rw (p, q)
 
 -- without a room
 module _ (s : List ℕ) (f : Book → reply.Answer) {x : Outcome} where
