@@ -4,14 +4,8 @@
 
 ghost use Rattle.std.specs.Prelude.{◌≡◌, ◌++◌, ℕ, ◌+◌, ◌*◌, ◌<◌, ◌≤◌, length, get_or, take, drop, Some};
 ghost use Rattle.meaning.specs.State.{flags};
-ghost use Rattle.lists.specs.Convert.{as_derivation};
-ghost use Rattle.lists.specs.Places.{start};
-ghost use Rattle.book.specs.Held.{meant};
-ghost use Rattle.table.specs.Table.{IsRow};
-ghost use Rattle.instance.specs.Values.{number_in};
-ghost use Rattle.steps.specs.Walk.{Here, Walk};
-ghost use Rattle.back.specs.Walk.{Trace as IsTrace, trace-prop, body_relation, body_count, Kept, Marked, Measures, Filled};
-ghost use Rattle.back.specs.Gone.{Wrote, Due, Stepped, Left, Gone};
+ghost use Rattle.back.specs.Walk.{Trace as IsTrace, trace-prop, body_relation, body_count, Kept};
+ghost use Rattle.back.specs.Gone.{Wrote};
 
 use table::{Row, Table};
 
@@ -77,10 +71,16 @@ fn write_step(list: &[i32], i: usize, n: usize, at: usize, room: &mut [i32]) -> 
 }
 
 impl<'a> Trace<'a> {
+    ghost use Rattle.lists.specs.Convert.{as_derivation};
+    ghost use Rattle.lists.specs.Places.{start};
+    ghost use Rattle.back.specs.Held.{book_of, StepAt, StepsFrom, RowAt};
+    ghost use Rattle.back.specs.Walk.{Marked, Measures, Filled};
+    ghost use Rattle.back.specs.Gone.{Due, Stepped, Left, Gone};
+
     // the row of the step at i
     fn row_at(&self, i: usize) -> Row
-        requires { Here self.now.table.now.book.bytes.now self.now.table.now.book.header self.now.list.now self.now.size i }
-        ensures { IsRow self.now.table.now.book.bytes.now self.now.table.now.book.header (number_in self.now.table.now.book.bytes.now self.now.table.now.book.header self.now.list.now i) result }
+        requires { StepAt self.now i }
+        ensures { RowAt self.now i result }
     {
         let table = self.table;
         table.row(instance::number_at(self.list, i, table.book.header.count))
@@ -90,7 +90,7 @@ impl<'a> Trace<'a> {
     // The same walk keeps the start of every 512th step, and every other number of the marks is as it was.
     pub fn measure(&self, relation: usize, marks: &mut [u32; 1024]) -> Measured
         requires { relation < 16 }
-        ensures { Measures (meant self.now.table.now.book) flags self.now.size self.now.list.now relation marks.old marks.new result }
+        ensures { Measures (book_of self.now) flags self.now.size self.now.list.now relation marks.old marks.new result }
     {
         let mut counts = [0usize; 16];
         let mut i = self.size;
@@ -111,8 +111,8 @@ impl<'a> Trace<'a> {
 
     // how many steps begin from `from` on, up to 512, and their starts
     fn fill(&self, from: usize, block: &mut [u32; 512]) -> usize
-        requires { Walk self.now.table.now.book.bytes.now self.now.table.now.book.header self.now.list.now self.now.size from }
-        ensures { Filled (meant self.now.table.now.book) self.now.size self.now.list.now from block.new result }
+        requires { StepsFrom self.now from }
+        ensures { Filled (book_of self.now) self.now.size self.now.list.now from block.new result }
     {
         let mut i = from;
         for (n, start) in block.iter_mut().enumerate() {
@@ -127,9 +127,9 @@ impl<'a> Trace<'a> {
 
     // the step at i, where `w` is wanted
     fn step_back(&self, i: usize, w: Wanted, room: &mut [i32]) -> Wanted
-        requires here { Here self.now.table.now.book.bytes.now self.now.table.now.book.header self.now.list.now self.now.size i }
-        requires due { Due (meant self.now.table.now.book) self.now.list.now i w room.old }
-        ensures { Stepped (meant self.now.table.now.book) self.now.list.now i w room.old result room.new }
+        requires here { StepAt self.now i }
+        requires due { Due (book_of self.now) self.now.list.now i w room.old }
+        ensures { Stepped (book_of self.now) self.now.list.now i w room.old result room.new }
     {
         let row = self.row_at(i);
         if w.relation == Some(row.head.relation as usize) {
@@ -145,9 +145,9 @@ impl<'a> Trace<'a> {
 
     // the steps of block m, from the last to the first
     fn block_back(&self, marks: &[u32; 1024], m: usize, wanted: Wanted, room: &mut [i32]) -> Wanted
-        requires m_bound { (m < 1024) × (get_or marks.now m 0 ≡ start (meant self.now.table.now.book) self.now.size self.now.list.now self.now.size (m * 512)) }
-        requires left { Left (meant self.now.table.now.book) flags self.now.list.now (m * 512 + 512) wanted room.old }
-        ensures { Gone (meant self.now.table.now.book) flags self.now.list.now (m * 512 + 512) wanted room.old (m * 512) result room.new }
+        requires m_bound { (m < 1024) × (get_or marks.now m 0 ≡ start (book_of self.now) self.now.size self.now.list.now self.now.size (m * 512)) }
+        requires left { Left (book_of self.now) flags self.now.list.now (m * 512 + 512) wanted room.old }
+        ensures { Gone (book_of self.now) flags self.now.list.now (m * 512 + 512) wanted room.old (m * 512) result room.new }
     {
         let mut block = [0u32; 512];
         let n = self.fill(marks[m] as usize, &mut block);
@@ -160,10 +160,10 @@ impl<'a> Trace<'a> {
 
     // Writes the derivation to the front of the room.
     pub fn write(&self, relation: usize, marks: &[u32; 1024], measured: Measured, room: &mut [i32])
-        requires marked { Marked (meant self.now.table.now.book) self.now.size self.now.list.now marks.now measured.marks }
-        requires numbers_value { measured.numbers ≡ length (as_derivation (meant self.now.table.now.book) flags relation self.now.list.now) }
+        requires marked { Marked (book_of self.now) self.now.size self.now.list.now marks.now measured.marks }
+        requires numbers_value { measured.numbers ≡ length (as_derivation (book_of self.now) flags relation self.now.list.now) }
         requires fits { measured.numbers ≤ length room.old }
-        ensures { room.new ≡ as_derivation (meant self.now.table.now.book) flags relation self.now.list.now ++ drop measured.numbers room.old }
+        ensures { room.new ≡ as_derivation (book_of self.now) flags relation self.now.list.now ++ drop measured.numbers room.old }
     {
         let mut w = Wanted {
             relation: Some(relation),

@@ -1,13 +1,13 @@
 use Rattle.std.proofs.Common.{arith, ◌+◌, ◌≤◌}
 use Rattle.std.proofs.lemmas.Grind.{div_ceil_times}
-use Rattle.book.specs.Held.{meant}
+use Rattle.back.specs.Held.{book_of}
 use Rattle.back.proofs.Places.{Cells, cells_of}
 use Rattle.back.proofs.Laws.{counted-first, counted-here, counted-small, counted-more, counted-all, marking-first, marking-more, marked_all}
 use Rattle.back.proofs.Trace.measure.Goals as goal
 use Rattle.back.proofs.Trace.measure.Goals.{After-row_at-row}
 
 -- the step's row, and where the step ends
-cells : (c : After-row_at-row) → Cells (meant c.args.self.now.table.now.book) c.args.self.now.list.now c.loop-i.i c.row_at-row.result
+cells : (c : After-row_at-row) → Cells (book_of c.args.self.now) c.args.self.now.list.now c.loop-i.i c.row_at-row.result
 cells c = cells_of c.args.self.now.table.now.book.accepted c.row_at-row.ensures
 
 ends : (c : After-row_at-row) → c.loop-i.i + (1 + c.row_at-row.result.variables + c.args.self.now.size) ≤ 1000000
