@@ -1,5 +1,7 @@
 -- What it means to write into a lent room.
 use Rattle.std.specs.Prelude.{◌≡◌, List, [], ◌∷◌, ℕ, ◌+◌, ◌≤◌, min, length, set}
+use Rattle.std.specs.Borrow.{MutBor}
+use Rattle.put.specs.declared.Printer.{Printer}
 
 -- d with t stored from index at on; what lies outside d is dropped
 unfoldable pub paste : {A : Type 0} → List A → ℕ → List A → List A
@@ -13,8 +15,15 @@ top = 18446744073709551615
 abbrev pub sat : ℕ → ℕ
 sat n = min n top
 
--- writing t at the position at takes the room from d to e and the position to r
-pub record Wrote {A : Type 0} (d e : List A) (at r : ℕ) (t : List A) : Type 0 where
-  pub fits : length d ≤ top
-  pub next : r ≡ sat (at + length t)
-  pub room : e ≡ paste d at t
+-- a printer of the room r, at its front
+pub record Begins (r : MutBor (List ℕ)) (p : Printer) : Type 0 where
+  pub same : p.room.ghost_name ≡ r.ghost_name
+  pub room : p.room.now ≡ r.now
+  pub front : p.at ≡ 0
+
+-- writing t takes a printer from p to q, in the same room
+pub record Wrote (p q : Printer) (t : List ℕ) : Type 0 where
+  pub same : q.room.ghost_name ≡ p.room.ghost_name
+  pub fits : length p.room.now ≤ top
+  pub next : q.at ≡ sat (p.at + length t)
+  pub room : q.room.now ≡ paste p.room.now p.at t
