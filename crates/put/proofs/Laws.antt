@@ -8,7 +8,7 @@ use native.Mathlib.Numerals.{add-one}
 use native.Mathlib.Decide.{dec_le}
 use lib.IntN.{ℤ}
 use lib.Signed.{mag}
-use mir.Syntax.{Width}
+use mir.Syntax.{Width, w64}
 use mir.Val.{hbits, to_z, of_z}
 use mir.Facts.{to_z-of_z}
 use lib.ListN.{length, set, drop, length-set, length-append}
@@ -166,3 +166,8 @@ module _ {p q : Printer} where
   -- a number, read back from its bits
   pub renum : (w : Width) (n : ℤ) → mag n < 2 ^ hbits w → Shows p q (num (to_z w (of_z w n))) → Shows p q (num n)
   renum w n h u = reshow (ap num (to_z-of_z (record { sfits = h }))) u
+
+  -- a number of fewer bits, read back
+  pub renum_wide : (w : Width) (n : ℤ) {r : ℤ} → mag n < 2 ^ hbits w → mag r < 2 ^ hbits w64 → r ≡ to_z w (of_z w n) →
+      Shows p q (num (to_z w64 (of_z w64 r))) → Shows p q (num n)
+  renum_wide w n {r} h g e u = reshow (ap num (e ∙ to_z-of_z (record { sfits = h }))) (renum w64 r g u)

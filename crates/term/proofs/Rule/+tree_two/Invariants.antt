@@ -1,5 +1,5 @@
 use Rattle.std.proofs.Common.{◌+◌, ◌*◌}
-use Rattle.term.proofs.+tree_two.Given as goal
+use Rattle.term.proofs.Rule.+tree_two.Given as goal
 
 abbrev pub decreases-tree : goal.decreases-tree
 decreases-tree l = l.depth * 2

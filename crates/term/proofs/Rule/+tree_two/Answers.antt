@@ -1,18 +1,18 @@
 use Rattle.cursor.specs.Sound.{node-known, compare-known, remains-known}
 use Rattle.term.proofs.Draws.{draws, drawn-two}
-use Rattle.term.proofs.+tree_two.Goals as goal
+use Rattle.term.proofs.Rule.+tree_two.Goals as goal
 
 pub tree-returns-then-depth-eq0 : goal.tree-returns-then-depth-eq0
 tree-returns-then-depth-eq0 t c = search draws depth 8
 
-pub tree-compare-a-requires : goal.tree-compare-a-requires
-tree-compare-a-requires t c = search (node-known, compare-known)
+pub tree-compare-requires : goal.tree-compare-requires
+tree-compare-requires t c = search (node-known, compare-known)
 
-pub tree-remains-a-requires : goal.tree-remains-a-requires
-tree-remains-a-requires t c = search (node-known, remains-known)
+pub tree-remains-requires : goal.tree-remains-requires
+tree-remains-requires t c = search (node-known, remains-known)
 
-pub tree-returns-in-Refused : goal.tree-returns-in-Refused
-tree-returns-in-Refused t c = search draws depth 8
+pub tree-returns-in_default : goal.tree-returns-in_default
+tree-returns-in_default t c = search draws depth 8
 
 pub tree-returns-in-True : goal.tree-returns-in-True
 tree-returns-in-True t c = search draws depth 8
