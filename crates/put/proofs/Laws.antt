@@ -15,10 +15,10 @@ use lib.ListN.{length, set, drop, length-set, length-append}
 use lib.Seq.{set_out, sets, sets-eq}
 use Rattle.sexp.specs.Sexp.{Sexp, Sexps, ◌⧺◌, onto, spaced, lines_onto, each}
 use Rattle.sexp.specs.Split.{onto-split, spaced-split, spaced-and, lines_split, lines-and}
-use Rattle.put.specs.Room.{paste, sat, top, Wrote}
+use Rattle.put.specs.Room.{paste, sat, top}
 use Rattle.put.specs.declared.Printer.{Printer}
 use Rattle.put.specs.Number.{num}
-use Rattle.put.specs.Shows.{Shows, Lists, Lines}
+use Rattle.put.specs.Shows.{Wrote, Shows, Lists, Lines}
 
 -- ---- pasting, of elements of any type
 module _ {A : Type 0} where
@@ -59,34 +59,26 @@ module _ {A : Type 0} where
   paste-front t d h = paste-sets t d 0 ∙ sets-eq t d 0 (omega arith) ∙ ap (λ (k : ℕ). t ++ drop k d) (zero-add (length t))
 
 -- ---- writing
-pub wrote_none : {p : Printer} → length p.room.now ≤ top → p.at ≤ top → Wrote p p []
+pub wrote_none : {p : Printer} → Wrote p p []
 unfolding paste
-wrote_none h k = record { same = refl; fits = h; next = omega arith; room = refl }
+wrote_none {p} = let h = p.there in record { same = refl; next = omega arith; room = refl }
 
--- one byte, stored in the room or past it
-pub wrote_one : {p q : Printer} {b : ℕ} → q.room.ghost_name ≡ p.room.ghost_name → length p.room.now ≤ top → q.at ≡ sat (p.at + 1) → q.room.now ≡ set p.room.now p.at b → Wrote p q (b ∷ [])
-unfolding paste
-wrote_one g h k e = record { same = g; fits = h; next = k; room = e }
+module _ {p q : Printer} {b : ℕ} (g : q.room.ghost_name ≡ p.room.ghost_name) (k : q.at ≡ sat (p.at + 1)) where
+  -- one byte, stored in the room or past it
+  pub wrote_one : q.room.now ≡ set p.room.now p.at b → Wrote p q (b ∷ [])
+  unfolding paste
+  wrote_one e = record { same = g; next = k; room = e }
 
-pub wrote-out : {p q : Printer} {b : ℕ} → q.room.ghost_name ≡ p.room.ghost_name → length p.room.now ≤ top → q.at ≡ sat (p.at + 1) → q.room.now ≡ p.room.now → length p.room.now ≤ p.at → Wrote p q (b ∷ [])
-wrote-out {p} {q} {b} g h k e o = record { same = g; fits = h; next = k; room = e ∙ sym (paste-out (b ∷ []) p.room.now p.at o) }
-
-module _ {p q : Printer} where
-  pub wrote-length : {t : List ℕ} → Wrote p q t → length q.room.now ≡ length p.room.now
-  wrote-length {t} w = ap length w.room ∙ length-paste t p.room.now p.at
-
-  -- nothing, where writing stands
-  pub wrote-still : {t : List ℕ} → Wrote p q t → Wrote q q []
-  wrote-still u = wrote_none (omega (arith, wrote-length u, u.fits)) (omega (arith, u.next))
+  pub wrote-out : q.room.now ≡ p.room.now → length p.room.now ≤ p.at → Wrote p q (b ∷ [])
+  wrote-out e o = record { same = g; next = k; room = e ∙ sym (paste-out (b ∷ []) p.room.now p.at o) }
 
 pub join : {p q r : Printer} {s t : List ℕ} → Wrote p q s → Wrote q r t → Wrote p r (s ++ t)
 join {p} {q} {r} {s} {t} w v =
     let d = p.room.now in
     record {
       same = v.same ∙ w.same;
-      fits = w.fits;
       next = omega (arith, length-append s t, w.next, v.next);
-      room = v.room ∙ rw (w.next, w.room) (paste-sat t (paste d p.at s) (p.at + length s) (rw length-paste w.fits) ∙ paste-append s t d p.at);
+      room = v.room ∙ rw (w.next, w.room) (paste-sat t (paste d p.at s) (p.at + length s) (rw length-paste p.fits) ∙ paste-append s t d p.at);
     }
 
 -- ---- an S-expression, and then k
@@ -118,9 +110,9 @@ module _ {p q r : Printer} {xs : Sexps} where
 
 -- ---- a loop: no item, those of one turn more, and all of them
 module _ (f : ℕ → Sexps) where
-  pub each_none : {p : Printer} → length p.room.now ≤ top → p.at ≤ top → Lists p p (each 0 f)
+  pub each_none : {p : Printer} → Lists p p (each 0 f)
   unfolding each onto
-  each_none h k = record { text = wrote_none h k }
+  each_none = record { text = wrote_none }
 
   pub each_more : {p q r : Printer} (i : ℕ) → Lists p q (each i f) → Lists q r (f i) → Lists p r (each (i + 1) f)
   unfolding each
@@ -129,14 +121,9 @@ module _ (f : ℕ → Sexps) where
   pub each_all : {p q : Printer} {i n : ℕ} → i ≤ n → n ≤ i → Lists p q (each i f) → Lists p q (each n f)
   each_all h k u = rw (le_antisymm h k) at u
 
-  -- a loop that begins where writing stands
-  pub each_after : {p q : Printer} {t : List ℕ} → Wrote p q t → Lists q q (each 0 f)
-  unfolding each onto
-  each_after u = record { text = wrote-still u }
-
-  pub lines_none : {p : Printer} → length p.room.now ≤ top → p.at ≤ top → Lines p p (each 0 f)
+  pub lines_none : {p : Printer} → Lines p p (each 0 f)
   unfolding each lines_onto
-  lines_none h k = record { text = wrote_none h k }
+  lines_none = record { text = wrote_none }
 
   pub lines_more : {p q r : Printer} (i : ℕ) → Lines p q (each i f) → Lines q r (f i) → Lines p r (each (i + 1) f)
   unfolding each
@@ -144,10 +131,6 @@ module _ (f : ℕ → Sexps) where
 
   pub lines-all : {p q : Printer} {i n : ℕ} → i ≤ n → n ≤ i → Lines p q (each i f) → Lines p q (each n f)
   lines-all h k u = rw (le_antisymm h k) at u
-
-  pub lines_after : {p q : Printer} {t : List ℕ} → Wrote p q t → Lines q q (each 0 f)
-  unfolding each lines_onto
-  lines_after u = record { text = wrote-still u }
 
 module _ {p q : Printer} where
   -- the same, said otherwise

@@ -1,20 +1,23 @@
 // Printing into a lent room. A position past the room is counted and nothing is stored there, so that a text is measured by printing it into an empty room.
 #![tactic(auto)]
 
-ghost use Rattle.std.specs.Prelude.{◌≡◌, [], ◌∷◌};
-ghost use Rattle.put.specs.Room.{Wrote, Begins};
+ghost use Rattle.std.specs.Prelude.{◌≡◌, ◌≤◌, [], ◌∷◌, length};
+ghost use Rattle.put.specs.Room.{top};
 ghost use Rattle.put.specs.Digits.{digits};
 ghost use Rattle.put.specs.Number.{num};
-ghost use Rattle.put.specs.Shows.{Shows};
 
 // A lent room, and where printing stands in it.
 #[derive(Drop)]
 pub struct Printer<'a> {
     room: &'a mut [u8],
     at: usize,
+    pub ghost fits: { length room.now ≤ top },
+    pub ghost there: { at ≤ top },
 }
 
 impl<'a> Printer<'a> {
+    ghost use Rattle.put.specs.Shows.{Begins, Wrote, Shows};
+
     // Begins at the front of a room.
     pub fn new(room: &'a mut [u8]) -> Printer<'a>
         ensures { Begins room.entry result }

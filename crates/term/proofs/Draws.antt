@@ -22,8 +22,7 @@ use Rattle.cursor.specs.Meaning.{tree_of, tree_in}
 use Rattle.sexp.specs.Bytes.{bytes}
 use Rattle.sexp.specs.Sexp.{word, list, end, ◌&◌, onto}
 use Rattle.put.specs.declared.Printer.{Printer}
-use Rattle.put.specs.Room.{Wrote}
-use Rattle.put.specs.Shows.{Shows}
+use Rattle.put.specs.Shows.{Wrote, Shows}
 use Rattle.put.proofs.Laws.{join, one}
 use Rattle.script.specs.Terms.{constraint}
 use Rattle.term.specs.declared.Rule.{Rule}

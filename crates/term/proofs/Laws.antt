@@ -19,13 +19,12 @@ use Rattle.sexp.specs.Bytes.{bytes}
 use Rattle.sexp.specs.Sexp.{Sexps, onto, each, over}
 use Rattle.sexp.specs.Split.{each_same}
 use Rattle.put.specs.declared.Printer.{Printer}
-use Rattle.put.specs.Room.{Wrote}
 use Rattle.put.specs.Digits.{digits}
 use Rattle.meaning.specs.Book as meant
 use Rattle.book.specs.declared.Window.{Window}
 use Rattle.book.specs.Windows.{Windowed, window_of, windowed-is}
 use Rattle.put.specs.Number.{num}
-use Rattle.put.specs.Shows.{Shows, Lists}
+use Rattle.put.specs.Shows.{Wrote, Shows, Lists}
 use Rattle.put.proofs.Laws.{relist, reshow}
 use Rattle.script.specs.Names.{flag_name, place_name, input_name}
 use Rattle.script.specs.Terms.{limits, product, compared}

@@ -8,8 +8,7 @@ use Rattle.cursor.specs.declared.Comparison.TheVariants.{AtMost, Equal}
 use Rattle.cursor.specs.declared.Remains.{Remains}
 use Rattle.cursor.specs.Tree.{Got, got, sum_of}
 use Rattle.put.specs.declared.Printer.{Printer}
-use Rattle.put.specs.Room.{Wrote}
-use Rattle.put.specs.Shows.{Shows}
+use Rattle.put.specs.Shows.{Wrote, Shows}
 use Rattle.term.specs.declared.Rule.{Rule}
 use Rattle.script.specs.Terms.{sum, compared, remains, constraint}
 

@@ -4,9 +4,8 @@
 ghost use Rattle.std.specs.Prelude.{[], ◌∷◌, ◌++◌, ◌+◌, ◌*◌, ◌≤◌, length};
 ghost use Rattle.sexp.specs.Bytes.{bytes};
 ghost use Rattle.sexp.specs.Sexp.{end, ◌&◌};
-ghost use Rattle.put.specs.Room.{Wrote};
 ghost use Rattle.put.specs.Digits.{digits};
-ghost use Rattle.put.specs.Shows.{Shows, Lists};
+ghost use Rattle.put.specs.Shows.{Wrote, Shows, Lists};
 ghost use Rattle.cursor.specs.Tree.{tree_at};
 ghost use Rattle.cursor.specs.Sound.{CompareThere, RemainsThere, IsTree};
 ghost use Rattle.cursor.specs.Meaning.{tree_in};

@@ -3,7 +3,7 @@ use Rattle.put.proofs.Laws.{wrote_none, join}
 use Rattle.put.proofs.Printer.put_all.Goals as goal
 
 pub loop-b-init : goal.loop-b-init
-loop-b-init c = wrote_none (omega arith) (omega arith)
+loop-b-init c = wrote_none
 
 pub loop-b-preserved : goal.loop-b-preserved
 loop-b-preserved c =

@@ -1,5 +1,5 @@
 use Rattle.std.proofs.Common.{take}
-use Rattle.put.specs.Room.{Wrote}
+use Rattle.put.specs.Shows.{Wrote}
 use Rattle.put.proofs.Printer.put_all.Given as goal
 
 abbrev pub invariant-loop-b : goal.invariant-loop-b

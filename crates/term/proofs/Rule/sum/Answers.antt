@@ -1,13 +1,13 @@
 use Rattle.std.proofs.Common.{arith}
 use Rattle.sexp.specs.Sexp.{onto}
 use Rattle.cursor.specs.Tree.{sum_of}
-use Rattle.put.proofs.Laws.{join, one, all, relist, each_after, each_more, each_all}
+use Rattle.put.proofs.Laws.{join, one, all, relist, each_none, each_more, each_all}
 use Rattle.script.specs.Terms as term
 use Rattle.term.proofs.Laws.{read-num, read-product, product_at, products-are}
 use Rattle.term.proofs.Rule.sum.Goals as goal
 
 pub loop-i-init : goal.loop-i-init
-loop-i-init c = (omega arith, each_after _ c.signed.ensures.text)
+loop-i-init c = (omega arith, each_none _)
 
 pub loop-i-preserved : goal.loop-i-preserved
 unfolding product_at
