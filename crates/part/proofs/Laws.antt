@@ -3,9 +3,9 @@ use mathlib.Core.Path.{◌≡◌, sym, ap, ◌∙◌}
 use mathlib.Core.Bool.{Bool, false}
 use mathlib.Core.Logic.{◌⊎◌, inl, inr}
 use mathlib.Core.List.{List}
-use Prim.Native.Nat.{ℕ, ◌+◌, ◌≤◌, ◌<◌}
+use Prim.Native.Nat.{ℕ, ◌+◌, ◌<◌}
 use native.Mathlib.Omega.{arith}
-use lib.ListN.{length, get_or, take, drop, length-take}
+use lib.ListN.{get_or, take, length-take}
 use lib.Seq.{get_or-take}
 use borrow.Author.Tests.{eq-eqb, ne_eqb}
 use Rattle.meaning.specs.Book as meant
@@ -22,9 +22,8 @@ use Rattle.book.specs.Joined.{Held}
 use Rattle.book.specs.Trailer.{read-trailed}
 use Rattle.book.specs.Arities.{arity-is}
 use Rattle.book.specs.Windows.{windows_of}
-use Rattle.sexp.specs.Sexp.{Sexps, end, ◌&◌, each, over, onto}
-use Rattle.sexp.specs.Split.{over-part}
-use Rattle.put.specs.Room.{top}
+use Rattle.sexp.specs.Sexp.{Sexps, end, ◌&◌, onto}
+use Rattle.put.specs.declared.Printer.{Printer}
 use Rattle.put.specs.Shows.{Lists}
 use Rattle.put.proofs.Laws.{relist, wrote_none}
 use Rattle.script.specs.Lines.{argument, atom_items, body_items, frame, frame_but, clause_part, clause_part_of}
@@ -36,36 +35,31 @@ by_arity s h f r = f r (get_or (book_in s h).arities r 0)
 
 -- ---- an atom
 
--- argument i, out of the bytes
-unfoldable pub argument_at : Bool → ℕ → List ℕ → ℕ → ℕ → ℕ → Sexps
-argument_at after k s r p i = argument after k r i (get_or s (p + 1 + i) 0)
-
-pub arguments-are : (after : Bool) (k : ℕ) (s : List ℕ) (r p n : ℕ) → p + 1 + n ≤ length s →
-    each n (argument_at after k s r p) ≡ over 0 (take n (drop (p + 1) s)) (argument after k r)
-unfolding argument_at
-arguments-are after k s r p n h = over-part 0 s (p + 1) n (argument after k r) h
+-- argument i of those that stand in xs
+unfoldable pub argument_in : Bool → ℕ → ℕ → List ℕ → ℕ → Sexps
+argument_in after k r xs i = argument after k r i (get_or xs i 0)
 
 -- ---- the body
 
-module _ (k : ℕ) (s : List ℕ) (h : Header) (b p : ℕ) {d : List ℕ} {at : ℕ} where
-  pub body-none : b ≡ 255 → length d ≤ top → at ≤ top → Lists d d at at (body_items k (body_of s h b p))
+module _ (k : ℕ) (s : List ℕ) (h : Header) (b at : ℕ) where
+  pub body-none : {p : Printer} → b ≡ 255 → Lists p p (body_items k (body_of s h b at))
   unfolding body_of pick body_items onto
-  body-none q l m = rw (eq-eqb b 255 q) (record { text = wrote_none l m })
+  body-none e = rw (eq-eqb b 255 e) (record { text = wrote_none })
 
-  pub body-some : {e : List ℕ} {r : ℕ} → (b ≡ 255 → ⊥) → Lists d e at r (atom_items false k (atom_of s h b p)) → Lists d e at r (body_items k (body_of s h b p))
+  pub body-some : {p q : Printer} → (b ≡ 255 → ⊥) → Lists p q (atom_items false k (atom_of s h b at)) → Lists p q (body_items k (body_of s h b at))
   unfolding body_of pick body_items
-  body-some q u = rw (ne_eqb b 255 q) u
+  body-some n u = rw (ne_eqb b 255 n) u
 
 -- ---- frames
 
-module _ (h r m : ℕ) {d : List ℕ} {at : ℕ} where
-  pub but_same : r ≡ h → length d ≤ top → at ≤ top → Lists d d at at (frame_but h r m)
+module _ (h r m : ℕ) where
+  pub but_same : {p : Printer} → r ≡ h → Lists p p (frame_but h r m)
   unfolding frame_but onto
-  but_same q l n = rw (eq-eqb r h q) (record { text = wrote_none l n })
+  but_same e = rw (eq-eqb r h e) (record { text = wrote_none })
 
-  pub but-other : {e : List ℕ} {o : ℕ} → (r ≡ h → ⊥) → Lists d e at o (frame r m) → Lists d e at o (frame_but h r m)
+  pub but-other : {p q : Printer} → (r ≡ h → ⊥) → Lists p q (frame r m) → Lists p q (frame_but h r m)
   unfolding frame_but
-  but-other q u = rw (ne_eqb r h q) u
+  but-other n u = rw (ne_eqb r h n) u
 
 -- ---- a record that was read: what stands before the index stands in the whole book
 
@@ -111,7 +105,7 @@ module _ (s : List ℕ) (h : Header) (good : read s ≡ Good h) (k : ℕ) (l : C
       let x = w.sound in
       rw (w.is, body_is x.body, atom-is l.head l.head_at x.head x.arguments, front-tree s h.start l.variables l.rule x.tree)
 
-  pub part_held : {d e : List ℕ} {at r : ℕ} → Lists d e at r (clause_part (windows_of s h k) (book_in s h).arities k (clause_of s h l) & end) →
-      Lists d e at r (clause_part_of (book_in s h) k (get_or (book_in s h).clauses k meant.none_such))
+  pub part_held : {p q : Printer} → Lists p q (clause_part (windows_of s h k) (book_in s h).arities k (clause_of s h l) & end) →
+      Lists p q (clause_part_of (book_in s h) k (get_or (book_in s h).clauses k meant.none_such))
   unfolding clause_part_of
   part_held u = relist (ap (λ (c : meant.Clause). clause_part (windows_of s h k) (book_in s h).arities k c & end) (sym clause-is)) u

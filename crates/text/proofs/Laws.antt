@@ -12,29 +12,13 @@ use Rattle.book.specs.Read.{read}
 use Rattle.book.specs.Meaning.{book_in}
 use Rattle.book.specs.Joined.{Held}
 use Rattle.book.specs.Arities.{relations-are}
-use Rattle.sexp.specs.Bytes.{bytes}
 use Rattle.sexp.specs.Sexp.{Sexps, each}
-use Rattle.put.specs.Room.{Wrote}
+use Rattle.put.specs.declared.Printer.{Printer}
 use Rattle.put.specs.Shows.{Lines}
 use Rattle.script.specs.Names.{place_name}
 use Rattle.script.specs.Terms.{limits}
 use Rattle.script.specs.Lines.{input_line, input_lines, denied, clause_part_of}
-use Rattle.term.specs.declared.Row.{Row}
-use Rattle.term.specs.declared.Name.{Name}
-use Rattle.term.specs.declared.Name.TheVariants.{Flag, Item}
-use Rattle.text.specs.Sort.{sort_of}
 use Rattle.text.specs.Reply.{clause_of}
-
-module _ (n : Name) {d e : List ℕ} {at r : ℕ} where
-  pub sort-flag : {m : ℕ} → n ≡ Flag m → Wrote d e at r (bytes "Bool") → Wrote d e at r (bytes (sort_of n))
-  unfolding sort_of
-  sort-flag h u = rw h u
-
-  pub sort-item : {row : Row} {i : ℕ} → n ≡ Item row i → Wrote d e at r (bytes "Int") → Wrote d e at r (bytes (sort_of n))
-  unfolding sort_of
-  sort-item h u = rw h u
-
-pub ruleset sorts = (sort-flag, sort-item)
 
 -- ---- loops over the relations
 
@@ -56,7 +40,7 @@ module _ (s : List ℕ) (h : Header) where
   part_at k = clause_part_of (book_in s h) k (clause_of s h k)
 
   -- a record that was read is the clause
-  pub inputs-held : (k : ℕ) (l : Clause) → Held s h k l → {d e : List ℕ} {at r : ℕ} →
-      Lines d e at r (each l.variables (input_line k)) → Lines d e at r (inputs_at k)
+  pub inputs-held : (k : ℕ) (l : Clause) → Held s h k l → {p q : Printer} →
+      Lines p q (each l.variables (input_line k)) → Lines p q (inputs_at k)
   unfolding inputs_at input_lines clause_in
   inputs-held k l w u = rw w.is u

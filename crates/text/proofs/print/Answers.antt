@@ -13,7 +13,7 @@ write-need-requires c = sym c.read_book-read.ensures.is ∙ c.in-Good.is
 pub returns-then-room-need : goal.returns-then-room-need
 returns-then-room-need c =
     let good = sym c.read_book-read.ensures.is ∙ c.in-Good.is in
-    room-on _ _ _ c.read_book-read.ensures c.in-Good.is (prints-short _ _ (text-small _ _ (λ i. (c.shared_slice_known-1.given i).fits) good) c.write-need.ensures c.if-room-need.true c.refuse.ensures)
+    room-on _ _ _ c.read_book-read.ensures c.in-Good.is (prints-short _ _ (text-small _ _ (λ i. (c.type_inv.book i).fits) good) c.write-need.ensures.room c.write-need.ensures.size c.if-room-need.true c.refuse.ensures)
 
 pub write-requires : goal.write-requires
 write-requires c = sym c.read_book-read.ensures.is ∙ c.in-Good.is
@@ -21,4 +21,4 @@ write-requires c = sym c.read_book-read.ensures.is ∙ c.in-Good.is
 pub returns : goal.returns
 returns c =
     let good = sym c.read_book-read.ensures.is ∙ c.in-Good.is in
-    room-on _ _ _ c.read_book-read.ensures c.in-Good.is (prints-written _ _ (text-small _ _ (λ i. (c.shared_slice_known-1.given i).fits) good) c.write-need.ensures c.if-room-need.false c.write.ensures)
+    room-on _ _ _ c.read_book-read.ensures c.in-Good.is (prints-written _ _ (text-small _ _ (λ i. (c.type_inv.book i).fits) good) c.write-need.ensures.room c.write-need.ensures.size c.if-room-need.false c.write.ensures.room)
