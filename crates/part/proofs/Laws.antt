@@ -3,9 +3,9 @@ use mathlib.Core.Path.{◌≡◌, sym, ap, ◌∙◌}
 use mathlib.Core.Bool.{Bool, false}
 use mathlib.Core.Logic.{◌⊎◌, inl, inr}
 use mathlib.Core.List.{List}
-use Prim.Native.Nat.{ℕ, ◌+◌, ◌<◌}
+use Prim.Native.Nat.{ℕ, ◌+◌, ◌-◌, ◌<◌}
 use native.Mathlib.Omega.{arith}
-use lib.ListN.{get_or, take, length-take}
+use lib.ListN.{length, get_or, take, drop, length-take}
 use lib.Seq.{get_or-take}
 use borrow.Author.Tests.{eq-eqb, ne_eqb}
 use Rattle.meaning.specs.Book as meant
@@ -22,7 +22,7 @@ use Rattle.book.specs.Joined.{Held}
 use Rattle.book.specs.Trailer.{read-trailed}
 use Rattle.book.specs.Arities.{arity-is}
 use Rattle.book.specs.Windows.{windows_of}
-use Rattle.sexp.specs.Sexp.{Sexps, end, ◌&◌, onto}
+use Rattle.sexp.specs.Sexp.{Sexps, end, ◌&◌, each, over, onto}
 use Rattle.put.specs.declared.Printer.{Printer}
 use Rattle.put.specs.Shows.{Lists}
 use Rattle.put.proofs.Laws.{relist, wrote_none}
@@ -38,6 +38,12 @@ by_arity s h f r = f r (get_or (book_in s h).arities r 0)
 -- argument i of those that stand in xs
 unfoldable pub argument_in : Bool → ℕ → ℕ → List ℕ → ℕ → Sexps
 argument_in after k r xs i = argument after k r i (get_or xs i 0)
+
+-- the slice that the code goes over, which begins at a and has m bytes, holds the n arguments
+pub arguments-are : (after : Bool) (k : ℕ) (s : List ℕ) (r a m n : ℕ) → m ≡ n →
+    each (length (take (a + m - a) (drop a s))) (argument_in after k r (take (a + m - a) (drop a s))) ≡ over 0 (take n (drop a s)) (argument after k r)
+unfolding argument_in
+arguments-are after k s r a m n h = rw (let e : a + m - a ≡ n = omega (arith, h) in e)
 
 -- ---- the body
 
