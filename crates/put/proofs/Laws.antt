@@ -1,7 +1,7 @@
 -- Laws of writing: what is written one after the other is its concatenation written.
 use mathlib.Core.Path.{◌≡◌, refl, sym, ap, ◌∙◌}
-use mathlib.Core.List.{List, [], ◌∷◌, ◌++◌}
-use Prim.Native.Nat.{ℕ, suc, ◌+◌, ◌^◌, ◌≤◌, ◌<◌}
+use mathlib.Core.List.{List, [], ◌∷◌, ◌++◌, append_assoc}
+use Prim.Native.Nat.{ℕ, suc, min, ◌+◌, ◌-◌, ◌^◌, ◌≤◌, ◌<◌}
 use native.Mathlib.Nat.{add-zero, zero-add, min-eq_left, min-eq_right, le_antisymm}
 use native.Mathlib.Omega.{arith}
 use native.Mathlib.Numerals.{add-one}
@@ -11,8 +11,10 @@ use lib.Signed.{mag}
 use mir.Syntax.{Width, w64}
 use mir.Val.{hbits, to_z, of_z}
 use mir.Facts.{to_z-of_z}
-use lib.ListN.{length, set, drop, length-set, length-append}
+use lib.ListN.{length, set, take, drop, length-set, length-append}
 use lib.Seq.{set_out, sets, sets-eq}
+use borrow.Rule.Slice.PartMut.{put_mid}
+use Rattle.std.proofs.lemmas.List.{drop_all, drop-drop, length-take-le, take-append-drop}
 use Rattle.sexp.specs.Sexp.{Sexp, Sexps, ◌⧺◌, onto, spaced, lines_onto, each}
 use Rattle.sexp.specs.Split.{onto-split, spaced-split, spaced-and, lines_split, lines-and}
 use Rattle.put.specs.Room.{paste, sat, top}
@@ -58,6 +60,28 @@ module _ {A : Type 0} where
   pub paste-front : (t d : List A) → length t ≤ length d → paste d 0 t ≡ t ++ drop (length t) d
   paste-front t d h = paste-sets t d 0 ∙ sets-eq t d 0 (omega arith) ∙ ap (λ (k : ℕ). t ++ drop k d) (zero-add (length t))
 
+  -- copying the first n of t stores what fits: all of t, or up to the end of d
+  module _ (t d : List A) (at n : ℕ) (h : at + n ≤ length d) (k : n ≤ length t) (end : n < length t → length d ≤ at + n) where
+    front-length : length (take n t) ≡ n
+    front-length = length-take-le n t k
+
+    rest-out : Dec (length t ≤ n) → paste (paste d at (take n t)) (at + n) (drop n t) ≡ paste d at (take n t)
+    unfolding paste
+    rest-out (yes o) = rw (drop_all n t o)
+    rest-out (no g) =
+        let o : n < length t = omega arith in
+        paste-out (drop n t) (paste d at (take n t)) (at + n) (omega (arith, length-paste (take n t) d at, end o))
+
+    front-all : paste d at (take n t) ≡ paste d at t
+    front-all =
+        sym (rest-out (dec_le (length t) n)) ∙ rw front-length at (paste-append (take n t) (drop n t) d at) ∙ ap (paste d at) (take-append-drop n t)
+
+    front-is : paste d at (take n t) ≡ take at d ++ (take n t ++ drop (at + n) d)
+    front-is = paste-sets (take n t) d at ∙ rw front-length at (sets-eq (take n t) d at (omega (arith, h, front-length))) ∙ append_assoc (take at d) _ _
+
+    pub copied : (m : ℕ) (u : List A) → m ≡ n → u ≡ take n t → put_mid at m d u ≡ paste d at t
+    copied m u e f = rw (e, f, drop-drop n at d) (sym front-is ∙ front-all)
+
 -- ---- writing
 pub wrote_none : {p : Printer} → Wrote p p []
 unfolding paste
@@ -71,6 +95,15 @@ module _ {p q : Printer} {b : ℕ} (g : q.room.ghost_name ≡ p.room.ghost_name)
 
   pub wrote-out : q.room.now ≡ p.room.now → length p.room.now ≤ p.at → Wrote p q (b ∷ [])
   wrote-out e o = record { same = g; next = k; room = e ∙ sym (paste-out (b ∷ []) p.room.now p.at o) }
+
+-- as many bytes as fit, copied
+pub wrote_copied : {p q : Printer} {t : List ℕ} (n : ℕ) {m : ℕ} {u : List ℕ} → q.room.ghost_name ≡ p.room.ghost_name → q.at ≡ sat (p.at + length t) →
+    p.at < length p.room.now → n ≡ min (length t) (length p.room.now - p.at) → m ≡ n → u ≡ take n t → q.room.now ≡ put_mid p.at m p.room.now u → Wrote p q t
+wrote_copied n g k l e f h r = record { same = g; next = k; room = r ∙ copied _ _ _ n (omega (arith, e, l)) (omega (arith, e)) (λ o. omega (arith, e, o)) _ _ f h }
+
+-- no byte fits
+pub wrote_past : {p q : Printer} {t : List ℕ} → q.room.ghost_name ≡ p.room.ghost_name → q.at ≡ sat (p.at + length t) → length p.room.now ≤ p.at → q.room.now ≡ p.room.now → Wrote p q t
+wrote_past {p} {q} {t} g k o e = record { same = g; next = k; room = e ∙ sym (paste-out t p.room.now p.at o) }
 
 pub join : {p q r : Printer} {s t : List ℕ} → Wrote p q s → Wrote q r t → Wrote p r (s ++ t)
 join {p} {q} {r} {s} {t} w v =

@@ -47,8 +47,11 @@ impl<'a> Printer<'a> {
     pub fn put_all(&mut self, bytes: &[u8])
         ensures { Wrote self.old self.new bytes.now }
     {
-        for b in bytes {
-            self.put(*b);
+        let at = self.at;
+        self.at = at.saturating_add(bytes.len());
+        if at < self.room.len() {
+            let held = bytes.len().min(self.room.len() - at);
+            self.room[at..at + held].copy_from_slice(&bytes[..held]);
         }
     }
 

@@ -112,7 +112,7 @@ impl Rule<'_> {
         out.put_all(b" (* ");
         out.signed(c);
         out.put(b' ');
-        Name::Input(self.clause, i).print(out);
+        numbered(out, b'y', self.clause, i);
         out.put(b')');
     }
 

@@ -1,11 +1,10 @@
-use Rattle.std.proofs.Common.{add-one, arith, length, take-suc, ◌<◌}
-use Rattle.put.proofs.Laws.{wrote_none, join}
+use Rattle.std.proofs.Common.{arith, refl}
+use Rattle.put.proofs.Laws.{wrote_copied, wrote_past}
 use Rattle.put.proofs.Printer.put_all.Goals as goal
 
-pub loop-b-init : goal.loop-b-init
-loop-b-init c = wrote_none
+pub returns-then-at-self : goal.returns-then-at-self
+returns-then-at-self c =
+    wrote_copied c.min-held.result refl (omega arith) (omega arith) c.min-held.ensures (omega arith) c.copy_from_slice.ensures.after refl
 
-pub loop-b-preserved : goal.loop-b-preserved
-loop-b-preserved c =
-    let h : c.loop-b.b-index < length c.args.bytes.now = omega arith in
-    rw (add-one, take-suc c.args.bytes.now c.loop-b.b-index 0 h) (join c.loop-b.invariant c.put.ensures)
+pub returns-else-at-self : goal.returns-else-at-self
+returns-else-at-self c = wrote_past refl (omega arith) (omega arith) refl
