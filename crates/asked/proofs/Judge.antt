@@ -1,7 +1,7 @@
 -- The ways of a check's answer: a test, passed or failed; the goal and the list's length; one part of the answer after another.
 use Prim.Native.Nat.{ℕ, ◌<◌, ◌≤◌}
 use native.Mathlib.Omega.{arith}
-use mathlib.Core.Path.{◌≡◌, refl, sym, ◌∙◌}
+use mathlib.Core.Path.{◌≡◌, refl, sym, ap, ◌∙◌}
 use mathlib.Core.List.{List}
 use mathlib.Core.Bool.{Bool, true, false}
 use lib.ListN.{length, get_or}
@@ -10,65 +10,65 @@ use lib.IntN.{ℤ}
 use borrow.Author.Tests.{lt-ltb, le-ltb, le-leb, lt-leb, eq-eqb, ne_eqb}
 use Rattle.meaning.specs.Book.{Book}
 use Rattle.reply.specs.declared.Refusal.{Refusal}
-use Rattle.reply.specs.declared.Answer.{Answer}
-use Rattle.reply.specs.declared.Answer.TheVariants.{Done, Refused}
 use Rattle.reply.specs.Answer as reply
-use Rattle.reply.specs.Answer.{need, and_then, refuse, told}
+use Rattle.reply.specs.Answer.{need, and_then, refuse, told, Outcome}
 use Rattle.reply.specs.Among.{need-ok, told-done, told-no}
 use Rattle.lists.specs.Derivation.{judge_goal, judge_length}
 use Rattle.book.specs.declared.Header.{Header}
-use Rattle.book.specs.declared.Reading.TheVariants as readings
 use Rattle.book.specs.Read.{read}
 use Rattle.book.specs.Meaning.{book_in}
 use Rattle.book.specs.Arities.{relations-are}
 use Rattle.book.proofs.Calls.{calls}
+use Rattle.std.specs.Prelude.{Result, Ok, Err}
+use Rattle.std.specs.Result.{IsErr, IsErrAnd}
+use Rattle.std.proofs.lemmas.Result.{err_from_is_err_and}
 
 -- ---- a test, passed or failed
 
-module _ (n i : ℕ) (a : reply.Answer) {x : Answer} where
+module _ (n i : ℕ) (a : reply.Answer) {x : Outcome} where
   pub need-yes : (t : Bool) {r : Bool} → r ≡ t → r ≡ true → x ≡ told a → x ≡ told (need t n i a)
   unfolding need
   need-yes t p q e = rw (sym p ∙ q) e
 
-  pub need-no : (t : Bool) {r : Bool} → r ≡ t → r ≡ false → x ≡ Refused (refuse n i) → x ≡ told (need t n i a)
+  pub need-no : (t : Bool) {r : Bool} → r ≡ t → r ≡ false → x ≡ Err (refuse n i) → x ≡ told (need t n i a)
   unfolding need told
   need-no t p q e = rw (sym p ∙ q) e
 
   pub need-lt : (k m : ℕ) → k < m → x ≡ told a → x ≡ told (need (ltb k m) n i a)
   need-lt k m h e = need-yes (ltb k m) (sym (lt-ltb k m h)) refl e
 
-  pub need-ge : (k m : ℕ) → m ≤ k → x ≡ Refused (refuse n i) → x ≡ told (need (ltb k m) n i a)
+  pub need-ge : (k m : ℕ) → m ≤ k → x ≡ Err (refuse n i) → x ≡ told (need (ltb k m) n i a)
   need-ge k m h e = need-no (ltb k m) (sym (le-ltb k m h)) refl e
 
   pub need-le : (k m : ℕ) → k ≤ m → x ≡ told a → x ≡ told (need (leb k m) n i a)
   need-le k m h e = need-yes (leb k m) (sym (le-leb k m h)) refl e
 
-  pub need-gt : (k m : ℕ) → m < k → x ≡ Refused (refuse n i) → x ≡ told (need (leb k m) n i a)
+  pub need-gt : (k m : ℕ) → m < k → x ≡ Err (refuse n i) → x ≡ told (need (leb k m) n i a)
   need-gt k m h e = need-no (leb k m) (sym (lt-leb k m h)) refl e
 
   pub need-eq : (k m : ℕ) → k ≡ m → x ≡ told a → x ≡ told (need (eqb k m) n i a)
   need-eq k m h e = need-yes (eqb k m) (sym (eq-eqb k m h)) refl e
 
-  pub need-ne : (k m : ℕ) → (k ≡ m → ⊥) → x ≡ Refused (refuse n i) → x ≡ told (need (eqb k m) n i a)
+  pub need-ne : (k m : ℕ) → (k ≡ m → ⊥) → x ≡ Err (refuse n i) → x ≡ told (need (eqb k m) n i a)
   need-ne k m h e = need-no (eqb k m) (sym (ne_eqb k m h)) refl e
 
-pub ends-well : {x : Answer} → x ≡ Done 0 → x ≡ told reply.ok
+pub ends-well : {x : Outcome} → x ≡ Ok 0 → x ≡ told reply.ok
 unfolding told
 ends-well e = e
 
 -- ---- the goal
 
-module _ (s : List ℕ) (h : Header) (r : ℕ) (vs : List ℤ) {w : ℕ} {x : Answer} where
-  pub goal-absent : read s ≡ readings.Good h → w ≡ h.relations → w ≤ r → x ≡ Refused (refuse 10 0) → x ≡ told (judge_goal (book_in s h) r vs)
+module _ (s : List ℕ) (h : Header) (r : ℕ) (vs : List ℤ) {w : ℕ} {x : Outcome} where
+  pub goal-absent : read s ≡ Ok h → w ≡ h.relations → w ≤ r → x ≡ Err (refuse 10 0) → x ≡ told (judge_goal (book_in s h) r vs)
   unfolding judge_goal
   goal-absent good v k e = need-ge 10 0 _ r (length (book_in s h).arities) (omega (arith, relations-are s h good)) e
 
-  pub goal-wrong : {m : ℕ} → read s ≡ readings.Good h → w ≡ h.relations → r < w → m ≡ get_or (book_in s h).arities r 0 → (length vs ≡ m → ⊥) → x ≡ Refused (refuse 10 0) →
+  pub goal-wrong : {m : ℕ} → read s ≡ Ok h → w ≡ h.relations → r < w → m ≡ get_or (book_in s h).arities r 0 → (length vs ≡ m → ⊥) → x ≡ Err (refuse 10 0) →
       x ≡ told (judge_goal (book_in s h) r vs)
   unfolding judge_goal
   goal-wrong good v k u n e = need-lt 10 0 _ r _ (omega (arith, relations-are s h good)) (need-ne 10 0 _ (length vs) _ (λ z. n (z ∙ sym u)) e)
 
-  pub goal-fits : {m : ℕ} → read s ≡ readings.Good h → w ≡ h.relations → r < w → m ≡ get_or (book_in s h).arities r 0 → length vs ≡ m → x ≡ Done 0 →
+  pub goal-fits : {m : ℕ} → read s ≡ Ok h → w ≡ h.relations → r < w → m ≡ get_or (book_in s h).arities r 0 → length vs ≡ m → x ≡ Ok 0 →
       x ≡ told (judge_goal (book_in s h) r vs)
   unfolding judge_goal
   goal-fits good v k u n e = need-lt 10 0 _ r _ (omega (arith, relations-are s h good)) (need-eq 10 0 _ (length vs) _ (n ∙ u) (ends-well e))
@@ -76,7 +76,7 @@ module _ (s : List ℕ) (h : Header) (r : ℕ) (vs : List ℤ) {w : ℕ} {x : An
 pub ruleset goals = (goal-absent, goal-wrong, goal-fits)
 
 -- a goal that was accepted is of a relation that is there, and has a value for each place
-module _ (b : Book) (r : ℕ) (vs : List ℤ) {y : Answer} {n : ℕ} (p : y ≡ told (judge_goal b r vs)) (q : y ≡ Done n) where
+module _ (b : Book) (r : ℕ) (vs : List ℤ) {y : Outcome} {n : ℕ} (p : y ≡ told (judge_goal b r vs)) (q : y ≡ Ok n) where
   pub goal-below : r < length b.arities
   unfolding judge_goal
   goal-below = ltb→lt r (length b.arities) ((need-ok _ _ _ _).0 (told-done _ (sym p ∙ q))).0
@@ -87,29 +87,34 @@ module _ (b : Book) (r : ℕ) (vs : List ℤ) {y : Answer} {n : ℕ} (p : y ≡ 
 
 -- ---- the list's length
 
-module _ (l : List ℤ) {x : Answer} where
-  pub list-empty : length l ≡ 0 → x ≡ Refused (refuse 11 0) → x ≡ told (judge_length l)
+module _ (l : List ℤ) {x : Outcome} where
+  pub list-empty : length l ≡ 0 → x ≡ Err (refuse 11 0) → x ≡ told (judge_length l)
   unfolding judge_length
   list-empty z e = need-ge 11 0 _ 0 (length l) (omega arith) e
 
-  pub list-long : (length l ≡ 0 → ⊥) → 1000000 < length l → x ≡ Refused (refuse 11 0) → x ≡ told (judge_length l)
+  pub list-long : (length l ≡ 0 → ⊥) → 1000000 < length l → x ≡ Err (refuse 11 0) → x ≡ told (judge_length l)
   unfolding judge_length
   list-long z k e = need-lt 11 0 _ 0 (length l) (omega arith) (need-gt 11 0 _ (length l) 1000000 k e)
 
-  pub list-fits : (length l ≡ 0 → ⊥) → length l ≤ 1000000 → x ≡ Done 0 → x ≡ told (judge_length l)
+  pub list-fits : (length l ≡ 0 → ⊥) → length l ≤ 1000000 → x ≡ Ok 0 → x ≡ told (judge_length l)
   unfolding judge_length
   list-fits z k e = need-lt 11 0 _ 0 (length l) (omega arith) (need-le 11 0 _ (length l) 1000000 k (ends-well e))
 
 pub ruleset lengths = (list-empty, list-long, list-fits)
 
+-- ---- where a refusal is handed on by `?`
+
+pub handed : {A E : Type 0} {f : E} (r : Result A E) → IsErr r × IsErrAnd r (λ e. e ≡ f) → r ≡ Err f
+handed r h = let (e, p, q) = err_from_is_err_and r h.1 in p ∙ ap Err q
+
 -- ---- one part of an answer after another
 
-module _ (a b : reply.Answer) {x : Answer} where
-  pub then-stop : {r : Answer} {g : Refusal} → r ≡ told a → r ≡ Refused g → x ≡ Refused g → x ≡ told (and_then a b)
+module _ (a b : reply.Answer) {x : Outcome} where
+  pub then-stop : {r : Outcome} {g : Refusal} → r ≡ told a → r ≡ Err g → x ≡ Err g → x ≡ told (and_then a b)
   unfolding told and_then
   then-stop {r} {g} p q e = rw (told-no a g (sym p ∙ q)) e
 
-  pub then-on : {r : Answer} {n : ℕ} → r ≡ told a → r ≡ Done n → x ≡ told b → x ≡ told (and_then a b)
+  pub then-on : {r : Outcome} {n : ℕ} → r ≡ told a → r ≡ Ok n → x ≡ told b → x ≡ told (and_then a b)
   unfolding and_then
   then-on p q e = rw (told-done a (sym p ∙ q)) e
 

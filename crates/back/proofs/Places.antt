@@ -15,7 +15,6 @@ use Rattle.lists.specs.Places.{clause_here, start}
 use Rattle.lists.specs.Back.{relation_of, trace_start}
 use Rattle.cursor.specs.Steps.{pick}
 use Rattle.book.specs.declared.Header.{Header}
-use Rattle.book.specs.declared.Reading.TheVariants.{Good}
 use Rattle.book.specs.Read.{read}
 use Rattle.book.specs.Meaning.{book_in}
 use Rattle.book.specs.Trailer.{read-trailed}
@@ -26,6 +25,7 @@ use Rattle.steps.specs.Walk.{Here}
 use Rattle.steps.proofs.Places.{here-row}
 use Rattle.back.specs.Walk.{Trace}
 use Rattle.back.specs.Gone.{told}
+use Rattle.std.specs.Prelude.{Ok}
 
 -- ---- the relation that a number tells
 
@@ -50,7 +50,7 @@ pub record Cells (b : Book) (l : List ℤ) (i v head body : ℕ) : Type 0 where
   pub body_is : told body ≡ relation_of (clause_here b l i).body
   pub body-small : body ≢ 255 → body < 16
 
-module _ (s : List ℕ) (h : Header) (good : read s ≡ Good h) where
+module _ (s : List ℕ) (h : Header) (good : read s ≡ Ok h) where
   small : (r : ℕ) → r < h.relations → r < 16
   small r k = let t = (read-trailed s h good).kept in omega arith
 
@@ -77,6 +77,6 @@ pub trace-start : {s : List ℕ} {h : Header} {C : Control} {l : List ℤ} {z : 
 trace-start t j = rw t.size
 
 -- a state of flags has a number for each relation at least
-pub flags-some : (s : List ℕ) (h : Header) → read s ≡ Good h → 1 ≤ size (book_in s h) flags
+pub flags-some : (s : List ℕ) (h : Header) → read s ≡ Ok h → 1 ≤ size (book_in s h) flags
 unfolding size
 flags-some s h good = let k = (read-trailed s h good).kept in omega (arith, relations-are s h good)

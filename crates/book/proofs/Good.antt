@@ -1,35 +1,28 @@
 -- What an accepted header lends the code: the relations and the index lie in the book.
 use Prim.Native.Nat.{ℕ, ◌+◌, ◌*◌, ◌<◌, ◌≤◌}
 use native.Mathlib.Omega.{arith}
-use mathlib.Core.Path.{◌≡◌, sym, ◌∙◌}
+use mathlib.Core.Path.{◌≡◌, sym}
 use mathlib.Core.List.{List}
 use lib.ListN.{length, take}
 use Rattle.book.specs.declared.Header.{Header}
-use Rattle.book.specs.declared.Reading.{Reading}
-use Rattle.book.specs.declared.Reading.TheVariants as readings
-use Rattle.book.specs.Read.{trailer, read}
-use Rattle.book.specs.Trailer.{Trailed, trailed, read-trailed}
+use Rattle.book.specs.Read.{trailer}
+use Rattle.book.specs.Trailer.{Trailed, trailed}
 use Rattle.book.proofs.Laws.{front_length, front-holds}
+use Rattle.std.specs.Prelude.{Ok}
 
--- of a call's result r that read the trailer
-module _ (s : List ℕ) (g : Header) {r : Reading} where
-  by-trailer : r ≡ trailer s → r ≡ readings.Good g → Trailed s g
-  by-trailer e h = trailed s g (sym e ∙ h)
+-- of a trailer that was read
+module _ (s : List ℕ) (g : Header) (e : Ok g ≡ trailer s) where
+  by-trailer : Trailed s g
+  by-trailer = trailed s g (sym e)
 
-  pub good-relations : r ≡ trailer s → r ≡ readings.Good g → g.relations ≤ g.start
-  good-relations e h = (by-trailer e h).kept.room
+  pub good-relations : g.relations ≤ g.start
+  good-relations = by-trailer.kept.room
 
-  pub good_start : r ≡ trailer s → r ≡ readings.Good g → g.start ≤ length s
-  good_start e h = let k = (by-trailer e h).kept in omega arith
+  pub good_start : g.start ≤ length s
+  good_start = let k = by-trailer.kept in omega arith
 
-  pub good-index : r ≡ trailer s → r ≡ readings.Good g → g.start + g.count * 2 ≤ length s
-  good-index e h = let k = (by-trailer e h).kept in omega arith
-
-  -- that read the whole book
-  pub by-book : r ≡ read s → r ≡ readings.Good g → Trailed s g
-  by-book e h = read-trailed s g (sym e ∙ h)
-
-pub ruleset goods = (good-relations, good_start, good-index)
+  pub good-index : g.start + g.count * 2 ≤ length s
+  good-index = let k = by-trailer.kept in omega arith
 
 -- what lending the front up to the index asks, and an index entry
 module _ (s : List ℕ) (g : Header) (w : Trailed s g) where

@@ -1,10 +1,8 @@
 -- What a reader's answer says in document 01's numbers: accepted is 0 at 0, with the book that was read; a refusal has its number and place.
-use Rattle.std.specs.Prelude.{ℕ, ◌≡◌, List}
+use Rattle.std.specs.Prelude.{ℕ, ◌≡◌, List, Ok, Err}
 use Rattle.std.proofs.Common.{ap}
 use Rattle.meaning.specs.Book.{Book}
-use Rattle.book.specs.declared.Reading.{Reading}
-use Rattle.book.specs.declared.Reading.TheVariants.{Good, Refused}
-use Rattle.book.specs.Read.{read}
+use Rattle.book.specs.Read.{read, Reading}
 use Rattle.book.specs.Meaning.{book_in}
 
 pub data Answer : Type 0 where
@@ -12,8 +10,8 @@ pub data Answer : Type 0 where
   refused : ℕ → ℕ → Answer
 
 unfoldable pub told : List ℕ → Reading → Answer
-told s (Good h) = accepted (book_in s h)
-told s (Refused r) = refused r.number r.place
+told s (Ok h) = accepted (book_in s h)
+told s (Err r) = refused r.number r.place
 
 -- what document 01 says of these bytes
 unfoldable pub answer : List ℕ → Answer

@@ -1,22 +1,21 @@
 -- The arities of an accepted book: where they stand, and that they are small.
 use Prim.Native.Nat.{ℕ, zero, suc, ◌+◌, ◌≤◌, ◌<◌}
 use native.Mathlib.Omega.{arith}
-use Rattle.std.specs.Prelude.{◌≡◌, List, length, take}
+use Rattle.std.specs.Prelude.{◌≡◌, List, length, take, Ok}
 use Rattle.std.proofs.Math.Path.{refl}
 use Rattle.std.proofs.Common.{sym, ◌∙◌, leb-true}
 use Rattle.std.proofs.Math.ListN.{get_or}
 use Rattle.std.proofs.Math.Seq.{get_or-take, length-take-le}
 use Rattle.std.proofs.lemmas.Bool.{eqb-false}
 use Rattle.cursor.specs.declared.Cursor.{Cursor}
-use Rattle.cursor.specs.declared.Step.TheVariants.{Moved}
 use Rattle.cursor.specs.Steps.{value_then}
-use Rattle.cursor.specs.Inverse.{pick-by, pick-then, byte-went, step_went, no_step, at_of, byte-read}
+use Rattle.cursor.specs.Inverse.{pick-by, pick-then, at_of, byte-read}
 use Rattle.book.specs.declared.Header.{Header}
-use Rattle.book.specs.declared.Reading.TheVariants.{Good}
 use Rattle.book.specs.Read.{top_arity, arity_at, arities_at, read}
 use Rattle.book.specs.Meaning.{book_in}
 use Rattle.book.specs.Joined.{passed}
 use Rattle.book.specs.Trailer.{read-trailed}
+use Rattle.reply.specs.Then.{went, no_err}
 
 -- k arities from c on, each at most what its relation may have
 pub record AreArities (s : List ℕ) (q k : ℕ) (c e : Cursor) : Type 0 where
@@ -25,12 +24,12 @@ pub record AreArities (s : List ℕ) (q k : ℕ) (c e : Cursor) : Type 0 where
   pub past : e.at ≡ c.at + k
 
 module _ (s : List ℕ) (q : ℕ) where
-  arity-went : (c : Cursor) {e : Cursor} {Q : Type 0} → arity_at s q c ≡ Moved e →
+  arity-went : (c : Cursor) {e : Cursor} {Q : Type 0} → arity_at s q c ≡ Ok e →
       (c.at < length s → get_or s c.at 0 ≤ top_arity q c.at → e.at ≡ c.at + 1 → Q) → Q
   unfolding arity_at value_then
   arity-went c {e} r k =
-      byte-went _ _ _ no_step r λ b d x y.
-      pick-then _ _ _ (no_step _) y λ t z.
+      went _ _ _ no_err r λ (b, d) x y.
+      pick-then _ _ _ (no_err _) y λ t z.
       let w = byte-read s c x in
       let same : d ≡ e = cc in
       k w.there (rw (← w.is) (leb-true _ _ t)) (at_of (sym same ∙ w.next))
@@ -40,18 +39,18 @@ module _ (s : List ℕ) (q : ℕ) where
   each_more k p t a zero i = let z : p + 0 ≡ p = omega arith in rw z t
   each_more k p t a (suc j) i = let z : p + suc j ≡ p + 1 + j = omega arith in rw z (a j (omega arith))
 
-  pub arities-read : (k : ℕ) (c : Cursor) {e : Cursor} → c.at ≤ length s → arities_at k s q c ≡ Moved e → AreArities s q k c e
+  pub arities-read : (k : ℕ) (c : Cursor) {e : Cursor} → c.at ≤ length s → arities_at k s q c ≡ Ok e → AreArities s q k c e
   unfolding arities_at
   arities-read zero c {e} h r =
       let same : c ≡ e = cc in
       record { within = omega arith; each = λ j i. absurd (let z : ⊥ = omega arith in z); past = at_of (sym same) ∙ omega arith }
   arities-read (suc k) c h r =
-      step_went _ _ _ no_step r λ d x y.
+      went _ _ _ no_err r λ d x y.
       arity-went c x λ there top next.
       let a = arities-read k d (omega arith) y in
       record { within = omega (arith, a.within); each = each_more k c.at top (rw next at a.each); past = omega (arith, a.past) }
 
-module _ (s : List ℕ) (h : Header) (good : read s ≡ Good h) where
+module _ (s : List ℕ) (h : Header) (good : read s ≡ Ok h) where
   -- they stand at the front of the book
   pub arities-are : (book_in s h).arities ≡ take h.relations s
   unfolding book_in

@@ -1,5 +1,5 @@
 -- Where the parts of an accepted book's record stand: each follows from the bytes before it, with nothing left to judge.
-use Rattle.std.specs.Prelude.{ℕ, ◌+◌, ◌<◌, ◌≤◌, ◌≡◌, refl, List, length, get_or, take, eqb}
+use Rattle.std.specs.Prelude.{ℕ, ◌+◌, ◌<◌, ◌≤◌, ◌≡◌, refl, List, length, get_or, take, eqb, Ok}
 use Rattle.std.proofs.Common.{arith, sym, ap, ◌∙◌, inl, inr, get_or-take, eq-eqb, ne_eqb}
 use Rattle.whole.specs.Bytes.{front-byte}
 use Rattle.cursor.specs.declared.Cursor.{Cursor}
@@ -7,7 +7,6 @@ use Rattle.cursor.specs.declared.Clause.{Clause}
 use Rattle.cursor.specs.Steps.{pick}
 use Rattle.cursor.specs.Inverse.{IsBody, IsParts, at_of, clause-read}
 use Rattle.book.specs.declared.Header.{Header}
-use Rattle.book.specs.declared.Reading.TheVariants as readings
 use Rattle.book.specs.Read.{read, entry_at}
 use Rattle.book.specs.Joined.{Held, held, record-read}
 use Rattle.book.specs.Trailer.{read-trailed}
@@ -84,7 +83,7 @@ module _ (s : List ℕ) (start n : ℕ) (room : n ≤ start) (few : n ≤ 16) (w
       made l a b c d e f = λ i. record { variables = sym a i; body = sym b i; body_at = sym c i; head = sym d i; head_at = sym e i; rule = sym f i }
 
 -- clause k of an accepted book is what stands where its index entry says
-module _ (s : List ℕ) (h : Header) (k : ℕ) {m : Cursor} (good : read s ≡ readings.Good h) (below : k < h.count) (e : m ≡ entry_at s h.start k) where
+module _ (s : List ℕ) (h : Header) (k : ℕ) {m : Cursor} (good : read s ≡ Ok h) (below : k < h.count) (e : m ≡ entry_at s h.start k) where
   stands : Room s m.at × Held s h k (record_of s m.at)
   stands =
       let w = record-read s h good k below in

@@ -12,3 +12,4 @@ pub mod Trailer
 pub mod Example
 pub mod Arities
 pub mod Windows
+pub mod Held

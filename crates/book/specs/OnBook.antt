@@ -1,21 +1,18 @@
 -- A refused book ends a call with its own refusal; with an accepted one the call goes on.
-use Rattle.std.specs.Prelude.{ℕ, ◌≡◌, ◌↔◌, List}
+use Rattle.std.specs.Prelude.{ℕ, ◌≡◌, ◌↔◌, List, Ok, Err}
 use Rattle.std.proofs.Math.Path.{refl, ap}
 use Rattle.std.proofs.Common.{sym, ◌∙◌}
 use Rattle.meaning.specs.Book.{Book}
 use Rattle.reply.specs.declared.Refusal.{Refusal}
-use Rattle.reply.specs.declared.Answer as code
-use Rattle.reply.specs.declared.Answer.TheVariants as answers
 use Rattle.reply.specs.Answer as reply
-use Rattle.reply.specs.Answer.{done, ok, says, told}
+use Rattle.reply.specs.Answer.{done, ok, says, told, Outcome}
 use Rattle.reply.specs.Among.{refused-not}
 use Rattle.reply.specs.Room.{Due, kept, Fair, kept-fair}
 use Rattle.book.specs.declared.Header.{Header}
-use Rattle.book.specs.declared.Reading.{Reading}
-use Rattle.book.specs.declared.Reading.TheVariants.{Good, Refused}
 use Rattle.book.specs.Meaning.{book_in}
 use Rattle.book.specs.Answer as books
 use Rattle.book.specs.Answer.{Answer, Answers, accepted, refused, answer}
+use Rattle.book.specs.Read.{Reading}
 
 unfoldable pub after : {X : Type 0} → Answer → (ℕ → ℕ → X) → (Book → X) → X
 after (accepted b) stop go = go b
@@ -30,9 +27,9 @@ abbrev pub reading : List ℕ → reply.Answer
 reading s = on_book s reply.refused (λ b. ok)
 
 -- a reading as a call's answer: a refused book's own refusal
-unfoldable pub refused_by : Reading → code.Answer
-refused_by (Good h) = answers.Done 0
-refused_by (Refused r) = answers.Refused r
+unfoldable pub refused_by : Reading → Outcome
+refused_by (Ok h) = Ok 0
+refused_by (Err r) = Err r
 
 module _ {X : Type 0} (s : List ℕ) (stop : ℕ → ℕ → X) (go : Book → X) where
   -- ---- the law for a refused book, and the one for an accepted book
@@ -57,11 +54,11 @@ module _ {X : Type 0} (s : List ℕ) (stop : ℕ → ℕ → X) (go : Book → X
   -- ---- by the reading y that the code has
 
   module _ {y : Reading} (w : Answers s y) where
-    pub by-refused : {g : Refusal} → y ≡ Refused g → on_book s stop go ≡ stop g.number g.place
+    pub by-refused : {g : Refusal} → y ≡ Err g → on_book s stop go ≡ stop g.number g.place
     unfolding books.told
     by-refused {g} e = on-refused g.number g.place (sym w.tells ∙ ap (books.told s) e)
 
-    pub by-good : {h : Header} → y ≡ Good h → on_book s stop go ≡ go (book_in s h)
+    pub by-good : {h : Header} → y ≡ Ok h → on_book s stop go ≡ go (book_in s h)
     unfolding books.told
     by-good {h} e = on-accepted (book_in s h) (sym w.tells ∙ ap (books.told s) e)
 
@@ -84,11 +81,11 @@ on-fair s d f w = on_both s (kept d) f (Fair d) (λ n p q. kept-fair d n p) (λ 
 
 -- ---- a reading as an answer
 
-pub refused-own : {y : Reading} {g : Refusal} {x : code.Answer} → x ≡ refused_by y → y ≡ Refused g → x ≡ answers.Refused g
+pub refused-own : {y : Reading} {g : Refusal} {x : Outcome} → x ≡ refused_by y → y ≡ Err g → x ≡ Err g
 unfolding refused_by
 refused-own p e = p ∙ rw e
 
-pub refused-told : {y : Reading} {g : Refusal} {x : code.Answer} → x ≡ refused_by y → y ≡ Refused g → x ≡ told (reply.refused g.number g.place)
+pub refused-told : {y : Reading} {g : Refusal} {x : Outcome} → x ≡ refused_by y → y ≡ Err g → x ≡ told (reply.refused g.number g.place)
 unfolding told
 refused-told p e = refused-own p e
 
@@ -98,5 +95,5 @@ unfolding refused_by says
 reading-says s {y} w = go y refl
   where
     go : (z : Reading) → y ≡ z → says (refused_by y) ≡ reading s
-    go (Good h) e = rw e (sym (by-good s reply.refused (λ b. ok) w e))
-    go (Refused g) e = rw e (sym (by-refused s reply.refused (λ b. ok) w e))
+    go (Ok h) e = rw e (sym (by-good s reply.refused (λ b. ok) w e))
+    go (Err g) e = rw e (sym (by-refused s reply.refused (λ b. ok) w e))

@@ -1,10 +1,9 @@
 -- A window as the code has it, and the windows of a clause's variables.
-use Rattle.std.specs.Prelude.{◌≡◌, List, ℕ, get_or, ℤ, ◌≤ℤ◌}
+use Rattle.std.specs.Prelude.{◌≡◌, List, ℕ, get_or, ℤ, ◌≤ℤ◌, Ok}
 use Rattle.meaning.specs.Book as meant
 use Rattle.meaning.specs.Book.{none_such, place_window, variable_window}
 use Rattle.book.specs.declared.Header.{Header}
 use Rattle.book.specs.declared.Window.{Window}
-use Rattle.book.specs.declared.Reading.TheVariants.{Good}
 use Rattle.book.specs.Read.{read}
 use Rattle.book.specs.Meaning.{book_in}
 use Rattle.book.specs.Trailer.{read-trailed}
@@ -25,7 +24,7 @@ abbrev pub windows_of : List ℕ → Header → ℕ → ℕ → meant.Window
 windows_of s h k = variable_window (book_in s h) (get_or (book_in s h).clauses k none_such)
 
 -- none of them is empty
-pub window-some : (s : List ℕ) (h : Header) (k i : ℕ) → read s ≡ Good h → (windows_of s h k i).lo ≤ℤ (windows_of s h k i).hi
+pub window-some : (s : List ℕ) (h : Header) (k i : ℕ) → read s ≡ Ok h → (windows_of s h k i).lo ≤ℤ (windows_of s h k i).hi
 unfolding variable_window book_in
 window-some s h k i good = (read-trailed s h good).kept.window
 

@@ -1,7 +1,7 @@
 // The clause book: its trailer, arities, records and index, read to the byte.
 #![tactic(auto)]
 
-ghost use Rattle.std.specs.Prelude.{◌≡◌, ◌+◌, ◌*◌, ◌≤◌, ◌<◌, length, get_or};
+ghost use Rattle.std.specs.Prelude.{◌≡◌, ◌+◌, ◌*◌, ◌≤◌, ◌<◌, length, get_or, Ok};
 ghost use Rattle.book.specs.Read.{top_arity, arity_at, arities_at, record_at, clauses_at, headed, sized, trailer, read, entry_at};
 ghost use Rattle.book.specs.Span.{absent, span_at, span_of};
 ghost use Rattle.book.specs.Lent.{lent, handed};
@@ -13,7 +13,12 @@ ghost use Rattle.book.specs.Meaning.{book_in};
 ghost use Rattle.book.specs.Windows.{Windowed};
 ghost use Rattle.meaning.specs.Book.{none_such, place_window, variable_window};
 ghost use Rattle.book.specs.Laid.{past_arguments, record_of, Room};
-ghost use Rattle.book.specs.declared.Reading.TheVariants.{Good};
+
+mod held;
+
+use cursor::Cursor;
+pub use held::Book;
+use reply::{Refusal, refuse};
 
 // What the trailer says: the window, where the index starts, how many clauses and relations there are, and the query relation.
 #[derive(Clone, Copy)]
@@ -24,13 +29,6 @@ pub struct Header {
     pub count: usize,
     pub relations: u8,
     pub query: u8,
-}
-
-// What reading a book answers: the header of an accepted book, or the refusal.
-#[derive(Clone, Copy)]
-pub enum Reading {
-    Good(Header),
-    Refused(reply::Refusal),
 }
 
 // The least and the greatest value that a place or a variable may have.
@@ -48,32 +46,36 @@ pub struct Span {
 }
 
 impl Header {
+    // the window of every place and every variable
+    fn window(self) -> Window
+        ensures { (result.lo ≡ self.lo) × (result.hi ≡ self.hi) }
+    {
+        Window {
+            lo: self.lo,
+            hi: self.hi,
+        }
+    }
+
     // the trailer's rules; one and zero are its last two bytes
-    fn judged(self, len: usize, one: u8, zero: u8) -> Reading
+    fn judged(self, len: usize, one: u8, zero: u8) -> Result<Header, Refusal>
         requires long_enough { 16 ≤ len }
         requires count_bound { self.start + self.count * 2 + 16 < 18446744073709551616 }
         ensures { result ≡ headed self len one zero }
     {
         if self.hi < self.lo {
-            Reading::Refused(reply::Refusal {
-                number: 2,
-                place: len - 16,
-            })
-        } else {
-            self.measured(len, one, zero)
+            return refuse(2, len - 16);
         }
+        self.measured(len, one, zero)
     }
 
     // the rules but for the window
-    fn measured(self, len: usize, one: u8, zero: u8) -> Reading
+    #[tactic(auto, unfolding(crate::specs::Read::sized, cursor::specs::Steps::pick))]
+    fn measured(self, len: usize, one: u8, zero: u8) -> Result<Header, Refusal>
         requires long_enough { 16 ≤ len }
         requires count_bound { self.start + self.count * 2 + 16 < 18446744073709551616 }
         ensures { result ≡ sized self len one zero }
     {
-        let bad = Reading::Refused(reply::Refusal {
-            number: 2,
-            place: len - 16,
-        });
+        let bad = refuse(2, len - 16);
         if self.relations < 1 {
             return bad;
         }
@@ -86,16 +88,19 @@ impl Header {
         if 64 < self.count {
             return bad;
         }
-        if self.query < self.relations {
-            if one == 1 {
-                if zero == 0 {
-                    if self.start + self.count * 2 + 16 == len {
-                        return Reading::Good(self);
-                    }
-                }
-            }
+        if self.relations <= self.query {
+            return bad;
         }
-        bad
+        if one != 1 {
+            return bad;
+        }
+        if zero != 0 {
+            return bad;
+        }
+        if self.start + self.count * 2 + 16 != len {
+            return bad;
+        }
+        Ok(self)
     }
 }
 
@@ -108,32 +113,23 @@ fn short_at(book: &[u8], at: usize) -> usize
 }
 
 // the header, by the trailer's rules alone
-fn trailer_of(book: &[u8]) -> Reading
+#[tactic(auto, unfolding(crate::specs::Read::trailer, cursor::specs::Steps::pick, cursor::specs::Steps::value_then, reply::specs::Then::go_on))]
+fn trailer_of(book: &[u8]) -> Result<Header, Refusal>
     ensures { result ≡ trailer book.now }
 {
     let len = book.len();
     if len < 16 {
-        return Reading::Refused(reply::Refusal {
-            number: 1,
-            place: 0,
-        });
+        return refuse(1, 0);
     }
     if 60000 < len {
-        return Reading::Refused(reply::Refusal {
-            number: 1,
-            place: 0,
-        });
+        return refuse(1, 0);
     }
     let t = len - 16;
-    let lo = whole::int_at(book, t);
-    let hi = whole::int_at(book, t + 4);
-    let start = short_at(book, t + 8);
-    let count = short_at(book, t + 10);
     let h = Header {
-        lo: lo,
-        hi: hi,
-        start: start,
-        count: count,
+        lo: whole::int_at(book, t),
+        hi: whole::int_at(book, t + 4),
+        start: short_at(book, t + 8),
+        count: short_at(book, t + 10),
         relations: book[t + 12],
         query: book[t + 13],
     };
@@ -148,143 +144,98 @@ fn most(i: usize, q: usize) -> u8
 }
 
 // one arity
-fn arity(c: cursor::Cursor, s: &[u8], q: usize) -> cursor::Step
+#[tactic(auto, unfolding(crate::specs::Read::arity_at, cursor::specs::Steps::pick, cursor::specs::Steps::value_then, reply::specs::Then::go_on))]
+fn arity(c: Cursor, s: &[u8], q: usize) -> Result<Cursor, Refusal>
     ensures { result ≡ arity_at s.now q c }
 {
-    match c.byte(s) {
-        cursor::Byte::Refused(r) => cursor::Step::Refused(r),
-        cursor::Byte::Got(a, next) => {
-            if a <= most(c.at, q) {
-                cursor::Step::Moved(next)
-            } else {
-                cursor::Step::Refused(reply::Refusal {
-                    number: 3,
-                    place: c.at,
-                })
-            }
-        }
+    let (a, next) = c.byte(s)?;
+    if a <= most(c.at, q) {
+        Ok(next)
+    } else {
+        refuse(3, c.at)
     }
 }
 
 // count arities
-fn arities(c: cursor::Cursor, s: &[u8], q: usize, count: u8) -> cursor::Step
+fn arities(c: Cursor, s: &[u8], q: usize, count: u8) -> Result<Cursor, Refusal>
     ensures { result ≡ arities_at count s.now q c }
 {
     let mut here = c;
-    let mut k = count;
-    while 0 < k {
-        match arity(here, s, q) {
-            cursor::Step::Refused(r) => return cursor::Step::Refused(r),
-            cursor::Step::Moved(next) => {
-                here = next;
-            }
-        }
-        k -= 1;
+    for _ in 0..count {
+        here = arity(here, s, q)?;
     }
-    cursor::Step::Moved(here)
+    Ok(here)
 }
 
 // the record whose index entry is at p, read where the cursor stands
-fn record_at(c: cursor::Cursor, book: &[u8], start: usize, n: u8, p: usize) -> cursor::Step
+#[tactic(auto, unfolding(crate::specs::Read::record_at, cursor::specs::Steps::pick, cursor::specs::Steps::value_then, reply::specs::Then::go_on))]
+fn record_at(c: Cursor, book: &[u8], start: usize, n: u8, p: usize) -> Result<Cursor, Refusal>
     requires n_le_start { n ≤ start }
     requires start_in_bounds { start ≤ length book.now }
     requires p_in_bounds { p + 2 ≤ length book.now }
     ensures { result ≡ record_at book.now start n p c }
 {
     if c.at == short_at(book, p) {
-        let here = cursor::Cursor { at: c.at, left: 0 };
-        match here.clause(&book[..start], n) {
-            cursor::ClauseStep::Refused(r) => cursor::Step::Refused(r),
-            cursor::ClauseStep::Got(_, next) => cursor::Step::Moved(next),
-        }
+        let here = Cursor { at: c.at, left: 0 };
+        let (_, next) = here.clause(&book[..start], n)?;
+        Ok(next)
     } else {
-        cursor::Step::Refused(reply::Refusal {
-            number: 4,
-            place: p,
-        })
+        refuse(4, p)
     }
 }
 
 // count records, the first one's index entry at p; then the index
 fn clauses(
-    c: cursor::Cursor,
+    c: Cursor,
     book: &[u8],
     start: usize,
     n: u8,
     p: usize,
     count: usize,
-) -> cursor::Step
+) -> Result<Cursor, Refusal>
     requires n_le_start { n ≤ start }
     requires start_in_bounds { start ≤ length book.now }
     requires count_in_bounds { p + count * 2 ≤ length book.now }
     ensures { result ≡ clauses_at count book.now start n p c }
 {
     let mut here = c;
-    let mut k = count;
-    let mut e = p;
-    while 0 < k {
-        match record_at(here, book, start, n, e) {
-            cursor::Step::Refused(r) => return cursor::Step::Refused(r),
-            cursor::Step::Moved(next) => {
-                here = next;
-            }
-        }
-        e += 2;
-        k -= 1;
+    for k in 0..count {
+        here = record_at(here, book, start, n, p + k * 2)?;
     }
     if here.at == start {
-        cursor::Step::Moved(here)
+        Ok(here)
     } else {
-        cursor::Step::Refused(reply::Refusal {
-            number: 4,
-            place: here.at,
-        })
+        refuse(4, here.at)
     }
 }
 
 // Reads a book: the answer for any bytes.
-pub fn read_book(book: &[u8]) -> Reading
+pub fn read_book(book: &[u8]) -> Result<Header, Refusal>
     ensures { Answers book.now result }
 {
-    match trailer_of(book) {
-        Reading::Refused(r) => Reading::Refused(r),
-        Reading::Good(h) => {
-            let start = h.start;
-            let first = cursor::Cursor { at: 0, left: 0 };
-            match arities(first, &book[..start], h.query as usize, h.relations) {
-                cursor::Step::Refused(r) => Reading::Refused(r),
-                cursor::Step::Moved(c) => match clauses(
-                    c,
-                    book,
-                    start,
-                    h.relations,
-                    start,
-                    h.count,
-                ) {
-                    cursor::Step::Refused(r) => Reading::Refused(r),
-                    cursor::Step::Moved(_) => Reading::Good(h),
-                },
-            }
-        }
-    }
+    let h = trailer_of(book)?;
+    let start = h.start;
+    let first = Cursor { at: 0, left: 0 };
+    let c = arities(first, &book[..start], h.query as usize, h.relations)?;
+    clauses(c, book, start, h.relations, start, h.count)?;
+    Ok(h)
 }
 
 // A reading as a call's answer: a refused book's own refusal.
-pub fn refused_by(b: Reading) -> reply::Answer
+#[tactic(auto, unfolding(crate::specs::OnBook::refused_by))]
+pub fn refused_by(b: Result<Header, Refusal>) -> reply::Answer
     ensures { result ≡ refused_by b }
 {
-    match b {
-        Reading::Good(_) => reply::Answer::Done(0),
-        Reading::Refused(r) => reply::Answer::Refused(r),
-    }
+    b?;
+    Ok(0)
 }
 
 // where the index says that record k starts
-fn entry(book: &[u8], start: usize, k: usize) -> cursor::Cursor
+fn entry(book: &[u8], start: usize, k: usize) -> Cursor
     requires { start + k * 2 + 2 ≤ length book.now }
     ensures { result ≡ entry_at book.now start k }
 {
-    cursor::Cursor {
+    Cursor {
         at: short_at(book, start + k * 2),
         left: 0,
     }
@@ -298,25 +249,27 @@ fn nowhere() -> Span
 }
 
 // where the constraint of the record at c stands
-fn span_at(book: &[u8], c: cursor::Cursor, start: usize, n: u8) -> Span
+#[tactic(auto, unfolding(crate::specs::Span::span_at, reply::specs::Then::go_on))]
+fn span_at(book: &[u8], c: Cursor, start: usize, n: u8) -> Span
     requires n_le_start { n ≤ start }
     requires start_in_bounds { start ≤ length book.now }
     ensures { result ≡ span_at book.now start n c }
 {
     match c.clause(&book[..start], n) {
-        cursor::ClauseStep::Refused(_) => nowhere(),
-        cursor::ClauseStep::Got(l, past) => Span {
+        Ok((l, past)) => Span {
             start: l.rule,
             end: past.at,
         },
+        Err(_) => nowhere(),
     }
 }
 
 // Where the constraint of clause k stands; 0 and 0 for a refused book or an absent clause.
+#[tactic(auto, unfolding(crate::specs::Span::span_of, cursor::specs::Steps::pick, cursor::specs::Steps::value_then, reply::specs::Then::go_on))]
 pub fn constraint_span(book: &[u8], k: usize) -> Span
     ensures { result ≡ span_of book.now k }
 {
-    let Reading::Good(h) = read_book(book) else {
+    let Ok(h) = read_book(book) else {
         return nowhere();
     };
     let start = h.start;
@@ -332,9 +285,7 @@ pub fn constraint_of(book: &[u8], k: usize) -> &[u8]
     ensures { lent result ≡ handed (lent book.entry) k }
 {
     let p = constraint_span(book, k);
-    let a = p.start;
-    let b = p.end;
-    &book[a..b]
+    &book[p.start..p.end]
 }
 
 // the place past the arguments of the relation r, whose number stands at p; 255 has none
@@ -366,39 +317,4 @@ fn laid(book: &[u8], p: usize) -> cursor::Clause
         head_at: seat,
         rule: past(book, seat, head),
     }
-}
-
-// The record of clause k of a book that was accepted with the header h: it is that clause of the meaning's book.
-pub fn record(book: &[u8], h: Header, k: usize) -> cursor::Clause
-    requires accepted { read book.now ≡ Good h }
-    requires k_lt_count { k < h.count }
-    ensures { Held book.now h k result }
-{
-    let c = entry(book, h.start, k);
-    laid(book, c.at)
-}
-
-// ---- what an accepted book says of its relations and variables
-
-// How many places relation r has.
-pub fn arity_of(book: &[u8], h: Header, r: usize) -> usize
-    requires accepted { read book.now ≡ Good h }
-    requires r_lt_relations { r < h.relations }
-    ensures { (result ≡ get_or (book_in book.now h).arities r 0) × (result ≤ 8) }
-{
-    whole::wide(book[r])
-}
-
-// The window of place i of relation r.
-pub fn place_window(book: &[u8], h: Header, r: usize, i: usize) -> Window
-    ensures { Windowed (place_window (book_in book.now h) r i) result }
-{
-    Window { lo: h.lo, hi: h.hi }
-}
-
-// The window of variable i of clause k.
-pub fn variable_window(book: &[u8], h: Header, k: usize, i: usize) -> Window
-    ensures { Windowed (variable_window (book_in book.now h) (get_or (book_in book.now h).clauses k none_such) i) result }
-{
-    Window { lo: h.lo, hi: h.hi }
 }

@@ -1,9 +1,7 @@
 -- The two calls joined to the checks of lists and to the meaning of the book that the bytes hold.
-use Rattle.std.specs.Prelude.{◌≡◌, ◌↔◌, List, ℕ, ◌+◌, ◌*◌, ◌≤◌, length, take, leb, ℤ}
+use Rattle.std.specs.Prelude.{◌≡◌, ◌↔◌, List, ℕ, ◌+◌, ◌*◌, ◌≤◌, length, take, leb, ℤ, Ok}
 use Rattle.std.proofs.Common.{sym, ap, ◌∙◌}
-use Rattle.reply.specs.declared.Answer as code
-use Rattle.reply.specs.declared.Answer.TheVariants.{Done}
-use Rattle.reply.specs.Answer.{Answer, done, refused, ok, need, says, says-done}
+use Rattle.reply.specs.Answer.{Answer, done, refused, ok, need, says, says-done, Outcome}
 use Rattle.reply.specs.Room.{Due, kept, wrote, Leaves, Fair}
 use Rattle.meaning.specs.Book.{Book}
 use Rattle.meaning.specs.Limits.{Limits}
@@ -56,15 +54,15 @@ pub record Written (s : List ℕ) (f : Book → Due ℤ) (n : ℕ) (e : List ℤ
   pub answer : (f book).answer ≡ done n
   pub room : e ≡ (f book).room
 
-written-by : (s : List ℕ) (f : Book → Due ℤ) (d : List ℤ) {n : ℕ} {e : List ℤ} → Leaves (on_book s (kept d) f) (Done n) e → Written s f n e
+written-by : (s : List ℕ) (f : Book → Due ℤ) (d : List ℤ) {n : ℕ} {e : List ℤ} → Leaves (on_book s (kept d) f) (Ok n) e → Written s f n e
 unfolding says
 written-by s f d w =
     let (b, q, k) = on-done s d f (sym w.tells) in
     record { book = b; held = q; answer = k; room = w.room ∙ ap (λ (y : Due ℤ). y.room) (on-accepted s (kept d) f b q) }
 
 -- where a list is due, it was written
-wrote_by : (s : List ℕ) (f : Book → Due ℤ) (d t : List ℤ) {x : code.Answer} {e : List ℤ} (b : Book) → books.answer s ≡ books.accepted b → f b ≡ wrote t d
-    → Leaves (on_book s (kept d) f) x e → x ≡ Done (length t)
+wrote_by : (s : List ℕ) (f : Book → Due ℤ) (d t : List ℤ) {x : Outcome} {e : List ℤ} (b : Book) → books.answer s ≡ books.accepted b → f b ≡ wrote t d
+    → Leaves (on_book s (kept d) f) x e → x ≡ Ok (length t)
 wrote_by s f d t {x} b q z w = (says-done x (length t)).0 (w.tells ∙ ap (λ (y : Due ℤ). y.answer) (on-accepted s (kept d) f b q ∙ z))
 
 -- ---- on the bytes s of a book, for the goal r vals
@@ -92,7 +90,7 @@ module _ (s : List ℕ) (bytes : Bytes s) (r : ℕ) (vals : List ℤ) where
       pub accepted : traces.answer s (take n e) r vals ≡ ok
       pub steps : length (trace_steps book flags (take n e)) ≡ length (derivation_steps book l)
 
-    pub to-trace-accepted : (n : ℕ) (e : List ℤ) → Leaves (to_trace_due s l r vals d) (Done n) e → Traced n e
+    pub to-trace-accepted : (n : ℕ) (e : List ℤ) → Leaves (to_trace_due s l r vals d) (Ok n) e → Traced n e
     to-trace-accepted n e c =
         let w = written-by s _ d c in
         let b = w.book in
@@ -109,8 +107,8 @@ module _ (s : List ℕ) (bytes : Bytes s) (r : ℕ) (vals : List ℤ) where
         }
 
     -- it writes just where the derivation is accepted, its trace has at most 1,000,000 numbers and the room holds it
-    pub to-trace-exact : (x : code.Answer) (e : List ℤ) → Leaves (to_trace_due s l r vals d) x e
-        → ((n : ℕ) × (x ≡ Done n)) ↔ ((b : Book) × (books.answer s ≡ books.accepted b) × (check_derivation b r vals l ≡ ok) × (length (as_trace b flags l) ≤ 1000000) × (length (as_trace b flags l) ≤ length d))
+    pub to-trace-exact : (x : Outcome) (e : List ℤ) → Leaves (to_trace_due s l r vals d) x e
+        → ((n : ℕ) × (x ≡ Ok n)) ↔ ((b : Book) × (books.answer s ≡ books.accepted b) × (check_derivation b r vals l ≡ ok) × (length (as_trace b flags l) ≤ 1000000) × (length (as_trace b flags l) ≤ length d))
     to-trace-exact x e c = (
       λ h. let w = written-by s _ d (rw h.1 at c) in
           let (p, m, k, z) = to_trace-done w.book flags r vals l d w.answer in
@@ -127,7 +125,7 @@ module _ (s : List ℕ) (bytes : Bytes s) (r : ℕ) (vals : List ℤ) where
       pub accepted : derivations.answer s (take n e) r vals ≡ ok
       pub steps : length (derivation_steps book (take n e)) ≤ length (trace_steps book flags l)
 
-    pub to-derivation-accepted : (n : ℕ) (e : List ℤ) → Leaves (to_derivation_due s l r vals d) (Done n) e → Derived n e
+    pub to-derivation-accepted : (n : ℕ) (e : List ℤ) → Leaves (to_derivation_due s l r vals d) (Ok n) e → Derived n e
     to-derivation-accepted n e c =
         let w = written-by s _ d c in
         let b = w.book in
@@ -144,8 +142,8 @@ module _ (s : List ℕ) (bytes : Bytes s) (r : ℕ) (vals : List ℤ) where
         }
 
     -- an accepted trace is refused only for room
-    pub to-derivation-exact : (x : code.Answer) (e : List ℤ) → Leaves (to_derivation_due s l r vals d) x e
-        → ((n : ℕ) × (x ≡ Done n)) ↔ ((b : Book) × (books.answer s ≡ books.accepted b) × (check_trace b flags r vals l ≡ ok) × (length (as_derivation b flags r l) ≤ length d))
+    pub to-derivation-exact : (x : Outcome) (e : List ℤ) → Leaves (to_derivation_due s l r vals d) x e
+        → ((n : ℕ) × (x ≡ Ok n)) ↔ ((b : Book) × (books.answer s ≡ books.accepted b) × (check_trace b flags r vals l ≡ ok) × (length (as_derivation b flags r l) ≤ length d))
     to-derivation-exact x e c = (
       λ h. let w = written-by s _ d (rw h.1 at c) in
           let (p, k, z) = to_derivation-done w.book flags r vals l d w.answer in
@@ -154,8 +152,8 @@ module _ (s : List ℕ) (bytes : Bytes s) (r : ℕ) (vals : List ℤ) where
     )
 
   -- a derivation taken over and back is the same list, number for number
-  pub there_and_back : (l d : List ℤ) (n : ℕ) (e : List ℤ) → Leaves (to_trace_due s l r vals d) (Done n) e
-      → (d' : List ℤ) (m : ℕ) (e' : List ℤ) → Leaves (to_derivation_due s (take n e) r vals d') (Done m) e' → take m e' ≡ l
+  pub there_and_back : (l d : List ℤ) (n : ℕ) (e : List ℤ) → Leaves (to_trace_due s l r vals d) (Ok n) e
+      → (d' : List ℤ) (m : ℕ) (e' : List ℤ) → Leaves (to_derivation_due s (take n e) r vals d') (Ok m) e' → take m e' ≡ l
   there_and_back l d n e c d' m e' c' =
       let t = to-trace-accepted l d n e c in
       let u = to-derivation-accepted (take n e) d' m e' c' in
@@ -166,16 +164,16 @@ module _ (s : List ℕ) (bytes : Bytes s) (r : ℕ) (vals : List ℤ) where
       u.list ∙ rw (same, t.list) (over-and-back b flags flags-laws (limits b t.held) r vals l t.from)
 
   -- and a room that holds the derivation gets it back
-  pub back-again : (l d : List ℤ) (n : ℕ) (e : List ℤ) → Leaves (to_trace_due s l r vals d) (Done n) e
-      → (d' : List ℤ) → length l ≤ length d' → (x : code.Answer) (e' : List ℤ) → Leaves (to_derivation_due s (take n e) r vals d') x e'
-      → (x ≡ Done (length l)) × (take (length l) e' ≡ l)
+  pub back-again : (l d : List ℤ) (n : ℕ) (e : List ℤ) → Leaves (to_trace_due s l r vals d) (Ok n) e
+      → (d' : List ℤ) → length l ≤ length d' → (x : Outcome) (e' : List ℤ) → Leaves (to_derivation_due s (take n e) r vals d') x e'
+      → (x ≡ Ok (length l)) × (take (length l) e' ≡ l)
   back-again l d n e c d' room x e' c' =
       let t = to-trace-accepted l d n e c in
       let b = t.book in
       let same : as_derivation b flags r (take n e) ≡ l = rw t.list (over-and-back b flags flags-laws (limits b t.held) r vals l t.from) in
       let good : check_trace b flags r vals (take n e) ≡ ok = sym (trace-answer b (take n e) t.held) ∙ t.accepted in
       let fits : length (as_derivation b flags r (take n e)) ≤ length d' = rw same room in
-      let is : x ≡ Done (length l) = wrote_by s _ d' (as_derivation b flags r (take n e)) b t.held (to_derivation-wrote b flags r vals (take n e) d' good fits) c' ∙ ap (λ (z : List ℤ). Done (length z)) same in
+      let is : x ≡ Ok (length l) = wrote_by s _ d' (as_derivation b flags r (take n e)) b t.held (to_derivation-wrote b flags r vals (take n e) d' good fits) c' ∙ ap (λ (z : List ℤ). Ok (length z)) same in
       (is, there_and_back l d n e c d' (length l) e' (rw is at c'))
 
   -- some list is accepted as a trace just where some list is accepted as a derivation whose trace is within the limit

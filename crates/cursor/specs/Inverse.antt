@@ -1,7 +1,7 @@
 -- What it means that a reading step succeeded, one law for each; before them, the ways out of a reading, each with its equation.
 use Prim.Native.Nat.{ℕ, zero, suc, ◌+◌, ◌-◌, ◌*◌, ◌<◌, ◌≤◌}
 use Rattle.std.proofs.Common.{arith, ap₂, ◌∙◌}
-use Rattle.std.specs.Prelude.{◌≡◌, ◌⊎◌, List, Bool, get_or, eqb}
+use Rattle.std.specs.Prelude.{◌≡◌, ◌⊎◌, List, Bool, get_or, eqb, Ok, Err}
 use Rattle.std.proofs.Math.Path.{refl, sym, ap}
 use Rattle.std.proofs.Math.Logic.{inl, inr}
 use Rattle.std.proofs.Math.Bool.{true, false}
@@ -10,27 +10,17 @@ use borrow.Author.Tests.{ltb-true, leb-true, eqb-true, eqb-false}
 use Rattle.whole.specs.Bytes.{u16_at}
 use Rattle.meaning.specs.Constraint.{Constraint, truth, at_most, equal, not, and, or, remainder}
 use Rattle.cursor.specs.declared.Cursor.{Cursor}
-use Rattle.reply.specs.declared.Refusal.{Refusal}
-use Rattle.cursor.specs.declared.Byte.{Byte}
-use Rattle.cursor.specs.declared.Byte.TheVariants as bytes
-use Rattle.cursor.specs.declared.Number as Number
-use Rattle.cursor.specs.declared.Number.TheVariants as numbers
-use Rattle.cursor.specs.declared.Step.{Step}
-use Rattle.cursor.specs.declared.Step.TheVariants as steps
 use Rattle.cursor.specs.declared.Comparison.TheVariants.{AtMost, Equal}
 use Rattle.cursor.specs.declared.Remains.{Remains}
 use Rattle.cursor.specs.declared.Node.{Node}
 use Rattle.cursor.specs.declared.Node.TheVariants as nodes
-use Rattle.cursor.specs.declared.NodeStep.{NodeStep}
-use Rattle.cursor.specs.declared.NodeStep.TheVariants as node-steps
-use Rattle.cursor.specs.declared.Clause as Clause'
-use Rattle.cursor.specs.declared.ClauseStep.{ClauseStep}
-use Rattle.cursor.specs.declared.ClauseStep.TheVariants as clauses
-use Rattle.cursor.specs.Steps.{pick, kinds, byte_then, number_then, step_then, node_then, moved, byte_at, below_at, relation_at, variable_at, skip_at, number_at, kind_at, sum_at, remains_at, node_at}
+use Rattle.cursor.specs.declared.Clause.{Clause}
+use Rattle.cursor.specs.Steps.{pick, kinds, moved, byte_at, below_at, relation_at, variable_at, skip_at, number_at, kind_at, sum_at, remains_at, node_at, Read}
 use Rattle.cursor.specs.Walk.{constraint_at}
-use Rattle.cursor.specs.Clause.{clause_then, arguments_at, fact_at, body_at, parts_at, clause_at}
+use Rattle.cursor.specs.Clause.{arguments_at, fact_at, body_at, parts_at, clause_at}
 use Rattle.cursor.specs.Tree as trees
-use Rattle.cursor.specs.Tree.{Got, got, no, then, sum_of, grow, tree_at, tree-read}
+use Rattle.cursor.specs.Tree.{sum_of, grow, tree_at, tree-read}
+use Rattle.reply.specs.Then.{no_err, same-read, went}
 
 -- what holds on each way out holds
 module _ {A : Type 0} (P : A → Type 0) where
@@ -38,36 +28,6 @@ module _ {A : Type 0} (P : A → Type 0) where
   unfolding pick
   pick-by true y z p q = p refl
   pick-by false y z p q = q refl
-
-  pub byte-by : (y : Byte) (go : ℕ → Cursor → A) (stop : Refusal → A) → ((b : ℕ) (e : Cursor) → y ≡ bytes.Got b e → P (go b e)) →
-      ((r : Refusal) → y ≡ bytes.Refused r → P (stop r)) → P (byte_then y go stop)
-  unfolding byte_then
-  byte-by (bytes.Got b e) go stop p q = p b e refl
-  byte-by (bytes.Refused r) go stop p q = q r refl
-
-  pub number_by : (y : Number.Number) (go : ℕ → Cursor → A) (stop : Refusal → A) → ((b : ℕ) (e : Cursor) → y ≡ numbers.Got b e → P (go b e)) →
-      ((r : Refusal) → y ≡ numbers.Refused r → P (stop r)) → P (number_then y go stop)
-  unfolding number_then
-  number_by (numbers.Got b e) go stop p q = p b e refl
-  number_by (numbers.Refused r) go stop p q = q r refl
-
-  pub step_by : (y : Step) (go : Cursor → A) (stop : Refusal → A) → ((e : Cursor) → y ≡ steps.Moved e → P (go e)) →
-      ((r : Refusal) → y ≡ steps.Refused r → P (stop r)) → P (step_then y go stop)
-  unfolding step_then
-  step_by (steps.Moved e) go stop p q = p e refl
-  step_by (steps.Refused r) go stop p q = q r refl
-
-  pub node_by : (y : NodeStep) (go : Node → Cursor → A) (stop : Refusal → A) → ((n : Node) (e : Cursor) → y ≡ node-steps.Got n e → P (go n e)) →
-      ((r : Refusal) → y ≡ node-steps.Refused r → P (stop r)) → P (node_then y go stop)
-  unfolding node_then
-  node_by (node-steps.Got n e) go stop p q = p n e refl
-  node_by (node-steps.Refused r) go stop p q = q r refl
-
-  pub clause-by : (y : ClauseStep) (go : Clause'.Clause → Cursor → A) (stop : Refusal → A) →
-      ((l : Clause'.Clause) (e : Cursor) → y ≡ clauses.Got l e → P (go l e)) → ((r : Refusal) → y ≡ clauses.Refused r → P (stop r)) → P (clause_then y go stop)
-  unfolding clause_then
-  clause-by (clauses.Got l e) go stop p q = p l e refl
-  clause-by (clauses.Refused r) go stop p q = q r refl
 
   pub kinds-by : (k : ℕ) (a b c d e f g o : A) → (k ≡ 0 → P a) → (k ≡ 1 → P b) → (k ≡ 2 → P c) → (k ≡ 3 → P d) → (k ≡ 4 → P e) → (k ≡ 5 → P f) →
       (k ≡ 6 → P g) → P o → P (kinds k a b c d e f g o)
@@ -84,51 +44,6 @@ module _ {A : Type 0} {x : A} {Q : Type 0} where
 
   pub pick-else : (t : Bool) (y z : A) → (y ≡ x → ⊥) → pick t y z ≡ x → (t ≡ false → z ≡ x → Q) → Q
   pick-else t y z n q k = pick-by (λ a. a ≡ x → Q) t y z (λ h p. absurd (n p)) k q
-
-  pub byte-went : (y : Byte) (go : ℕ → Cursor → A) (stop : Refusal → A) → ((r : Refusal) → stop r ≡ x → ⊥) → byte_then y go stop ≡ x →
-      ((b : ℕ) (e : Cursor) → y ≡ bytes.Got b e → go b e ≡ x → Q) → Q
-  byte-went y go stop n q k = byte-by (λ a. a ≡ x → Q) y go stop k (λ r h p. absurd (n r p)) q
-
-  pub number-went : (y : Number.Number) (go : ℕ → Cursor → A) (stop : Refusal → A) → ((r : Refusal) → stop r ≡ x → ⊥) → number_then y go stop ≡ x →
-      ((b : ℕ) (e : Cursor) → y ≡ numbers.Got b e → go b e ≡ x → Q) → Q
-  number-went y go stop n q k = number_by (λ a. a ≡ x → Q) y go stop k (λ r h p. absurd (n r p)) q
-
-  pub step_went : (y : Step) (go : Cursor → A) (stop : Refusal → A) → ((r : Refusal) → stop r ≡ x → ⊥) → step_then y go stop ≡ x →
-      ((e : Cursor) → y ≡ steps.Moved e → go e ≡ x → Q) → Q
-  step_went y go stop n q k = step_by (λ a. a ≡ x → Q) y go stop k (λ r h p. absurd (n r p)) q
-
-  pub node-went : (y : NodeStep) (go : Node → Cursor → A) (stop : Refusal → A) → ((r : Refusal) → stop r ≡ x → ⊥) → node_then y go stop ≡ x →
-      ((m : Node) (e : Cursor) → y ≡ node-steps.Got m e → go m e ≡ x → Q) → Q
-  node-went y go stop n q k = node_by (λ a. a ≡ x → Q) y go stop k (λ r h p. absurd (n r p)) q
-
-  pub clause-went : (y : ClauseStep) (go : Clause'.Clause → Cursor → A) (stop : Refusal → A) → ((r : Refusal) → stop r ≡ x → ⊥) → clause_then y go stop ≡ x →
-      ((l : Clause'.Clause) (e : Cursor) → y ≡ clauses.Got l e → go l e ≡ x → Q) → Q
-  clause-went y go stop n q k = clause-by (λ a. a ≡ x → Q) y go stop k (λ r h p. absurd (n r p)) q
-
--- a refusal is nothing that was read
-pub no_byte : {b : ℕ} {e : Cursor} (r : Refusal) → bytes.Refused r ≡ bytes.Got b e → ⊥
-no_byte r q = let z : ◌≡◌ {A = ℕ} 0 1 = cc in omega arith
-
-pub no_number : {b : ℕ} {e : Cursor} (r : Refusal) → numbers.Refused r ≡ numbers.Got b e → ⊥
-no_number r q = let z : ◌≡◌ {A = ℕ} 0 1 = cc in omega arith
-
-pub no_step : {e : Cursor} (r : Refusal) → steps.Refused r ≡ steps.Moved e → ⊥
-no_step r q = let z : ◌≡◌ {A = ℕ} 0 1 = cc in omega arith
-
-pub no_node : {n : Node} {e : Cursor} (r : Refusal) → node-steps.Refused r ≡ node-steps.Got n e → ⊥
-no_node r q = let z : ◌≡◌ {A = ℕ} 0 1 = cc in omega arith
-
-pub no-clause : {l : Clause'.Clause} {e : Cursor} (r : Refusal) → clauses.Refused r ≡ clauses.Got l e → ⊥
-no-clause r q = let z : ◌≡◌ {A = ℕ} 0 1 = cc in omega arith
-
-pub no-tree : {A : Type 0} {a : A} {e : Cursor} (r : Refusal) → no r ≡ got a e → ⊥
-no-tree r q = let z : ◌≡◌ {A = ℕ} 0 1 = cc in omega arith
-
-pub then-went : {A B : Type 0} (y : Got A) (go : A → Cursor → Got B) {b : B} {e : Cursor} {Q : Type 0} → then y go ≡ got b e →
-    ((a : A) (d : Cursor) → y ≡ got a d → go a d ≡ got b e → Q) → Q
-unfolding then
-then-went (got a d) go q k = k a d refl q
-then-went (no r) go q k = absurd (no-tree r q)
 
 -- ---- bytes and numbers
 
@@ -158,27 +73,27 @@ module _ (s : List ℕ) where
     pub is : b ≡ get_or s c.at 0
     pub next : e ≡ moved 1 c
 
-  pub byte-read : (c : Cursor) {b : ℕ} {e : Cursor} → byte_at s c ≡ bytes.Got b e → IsByte c b e
+  pub byte-read : (c : Cursor) {b : ℕ} {e : Cursor} → byte_at s c ≡ Ok (b, e) → IsByte c b e
   unfolding byte_at
-  byte-read c q = pick-then _ _ _ (no_byte _) q λ t r. record { there = ltb-true _ _ t; is = cc; next = cc }
+  byte-read c q = pick-then _ _ _ (no_err _) q λ t r. let z = same-read r in record { there = ltb-true _ _ t; is = sym z.0; next = sym z.1 }
 
   pub record IsBelow (n : ℕ) (c : Cursor) (b : ℕ) (e : Cursor) : Type 0 where
     pub here : IsByte c b e
     pub below : b < n
 
-  pub below-read : (number n : ℕ) (c : Cursor) {b : ℕ} {e : Cursor} → below_at number s n c ≡ bytes.Got b e → IsBelow n c b e
+  pub below-read : (number n : ℕ) (c : Cursor) {b : ℕ} {e : Cursor} → below_at number s n c ≡ Ok (b, e) → IsBelow n c b e
   unfolding below_at
   below-read number n c {b} q =
-      byte-went _ _ _ no_byte q λ a d p r.
-      pick-then _ _ _ (no_byte _) r λ t u.
+      went _ _ _ no_err q λ (a, d) p r.
+      pick-then _ _ _ (no_err _) r λ t u.
       let same : a ≡ b = cc in
       record { here = byte-read c (p ∙ u); below = omega (arith, ltb-true a n t) }
 
-  pub relation-read : (n : ℕ) (c : Cursor) {b : ℕ} {e : Cursor} → relation_at s n c ≡ bytes.Got b e → IsBelow n c b e
+  pub relation-read : (n : ℕ) (c : Cursor) {b : ℕ} {e : Cursor} → relation_at s n c ≡ Ok (b, e) → IsBelow n c b e
   unfolding relation_at
   relation-read n c q = below-read 5 n c q
 
-  pub variable-read : (n : ℕ) (c : Cursor) {b : ℕ} {e : Cursor} → variable_at s n c ≡ bytes.Got b e → IsBelow n c b e
+  pub variable-read : (n : ℕ) (c : Cursor) {b : ℕ} {e : Cursor} → variable_at s n c ≡ Ok (b, e) → IsBelow n c b e
   unfolding variable_at
   variable-read n c q = below-read 6 n c q
 
@@ -186,20 +101,20 @@ module _ (s : List ℕ) where
     pub there : c.at + n ≤ length s
     pub next : e ≡ moved n c
 
-  pub skip_read : (n : ℕ) (c : Cursor) {e : Cursor} → skip_at s n c ≡ steps.Moved e → IsSkip n c e
+  pub skip_read : (n : ℕ) (c : Cursor) {e : Cursor} → skip_at s n c ≡ Ok e → IsSkip n c e
   unfolding skip_at
-  skip_read n c q = pick-then _ _ _ (no_step _) q λ t r. record { there = leb-true _ _ t; next = cc }
+  skip_read n c q = pick-then _ _ _ (no_err _) q λ t r. record { there = leb-true _ _ t; next = cc }
 
   pub record IsNumber (c : Cursor) (x : ℕ) (e : Cursor) : Type 0 where
     pub here : IsSkip 2 c e
     pub is : x ≡ u16_at s c.at
 
-  pub number_read : (c : Cursor) {x : ℕ} {e : Cursor} → number_at s c ≡ numbers.Got x e → IsNumber c x e
+  pub number_read : (c : Cursor) {x : ℕ} {e : Cursor} → number_at s c ≡ Ok (x, e) → IsNumber c x e
   unfolding number_at
   number_read c {x} {e} q =
-      step_went _ _ _ no_number q λ d p r.
-      let same : d ≡ e = cc in
-      record { here = skip_read 2 c (p ∙ ap steps.Moved same); is = cc }
+      went _ _ _ no_err q λ d p r.
+      let z = same-read r in
+      record { here = skip_read 2 c (p ∙ ap Ok z.1); is = sym z.0 }
 
   -- ---- nodes
 
@@ -210,20 +125,20 @@ module _ (s : List ℕ) where
     pub some : 0 < c.left
     pub next : e ≡ record { at = c.at + 1; left = c.left - 1 }
 
-  pub kind-read : (c : Cursor) {k : ℕ} {e : Cursor} → kind_at s c ≡ bytes.Got k e → IsKind c k e
+  pub kind-read : (c : Cursor) {k : ℕ} {e : Cursor} → kind_at s c ≡ Ok (k, e) → IsKind c k e
   unfolding kind_at
   kind-read c {k} {e} q =
-      byte-went _ _ _ no_byte q λ a d p r.
-      pick-then _ _ _ (no_byte _) r λ t u.
+      went _ _ _ no_err q λ (a, d) p r.
+      pick-then _ _ _ (no_err _) r λ t u.
       let w = byte-read c p in
-      let same : a ≡ k = cc in
+      let (same, last) = same-read u in
       let l : d.left ≡ c.left = left-of w.next in
-      record { there = w.there; is = sym same ∙ w.is; some = omega (arith, ltb-true 0 d.left t); next = made d w.next (cc) }
+      record { there = w.there; is = sym same ∙ w.is; some = omega (arith, ltb-true 0 d.left t); next = made d w.next last }
     where
       made : (d : Cursor) → d ≡ moved 1 c → record { at = d.at; left = d.left - 1 } ≡ e → e ≡ record { at = c.at + 1; left = c.left - 1 }
       made d n u = cc
 
-  pub sum-read : (v : ℕ) (c : Cursor) {e : Cursor} → sum_at s v c ≡ steps.Moved e → IsSkip (v * 2 + 4) c e
+  pub sum-read : (v : ℕ) (c : Cursor) {e : Cursor} → sum_at s v c ≡ Ok e → IsSkip (v * 2 + 4) c e
   unfolding sum_at
   sum-read v c q = skip_read (v * 2 + 4) c q
 
@@ -237,19 +152,19 @@ module _ (s : List ℕ) where
     pub less : m.r < m.d
     pub next : e ≡ moved (v * 2 + 4 + 4) c
 
-  pub remains-read : (v : ℕ) (c : Cursor) {n : Node} {e : Cursor} → remains_at s v c ≡ node-steps.Got n e →
+  pub remains-read : (v : ℕ) (c : Cursor) {n : Node} {e : Cursor} → remains_at s v c ≡ Ok (n, e) →
       (m : Remains) × (nodes.Remainder m ≡ n) × IsRemains v c m e
   unfolding remains_at
   remains-read v c {n} {e} q =
-      step_went _ _ _ no_node q λ c1 p1 q1.
-      number-went _ _ _ no_node q1 λ d c2 p2 q2.
-      pick-else _ _ _ (no_node _) q2 λ z q3.
-      number-went _ _ _ no_node q3 λ r c3 p3 q4.
-      pick-then _ _ _ (no_node _) q4 λ t q5.
+      went _ _ _ no_err q λ c1 p1 q1.
+      went _ _ _ no_err q1 λ (d, c2) p2 q2.
+      pick-else _ _ _ (no_err _) q2 λ z q3.
+      went _ _ _ no_err q3 λ (r, c3) p3 q4.
+      pick-then _ _ _ (no_err _) q4 λ t q5.
       let w = sum-read v c p1 in
       let x = number_read c1 p2 in
       let y = number_read c2 p3 in
-      let last : c3 ≡ e = cc in
+      let (same, last) = same-read q5 in
       let m1 : c1.at ≡ c.at + (v * 2 + 4) = at_of w.next in
       let m2 : c2.at ≡ c1.at + 2 = at_of x.here.next in
       let m3 : c3.at ≡ c2.at + 2 = at_of y.here.next in
@@ -257,7 +172,7 @@ module _ (s : List ℕ) where
       let l2 : c2.left ≡ c1.left = left-of x.here.next in
       let l3 : c3.left ≡ c2.left = left-of y.here.next in (
         record { sum = record { at = c.at }; d = d; r = r },
-        cc,
+        same,
         record {
           sum = refl;
           there = omega (arith, y.here.there);
@@ -284,26 +199,25 @@ module _ (s : List ℕ) where
     pub kind : IsKind c (kind_of n) inner
     pub holds : IsData v inner n e
 
-  node-is : (v : ℕ) (c : Cursor) {n : Node} {e : Cursor} (m : Node) (d : Cursor) (k : ℕ) (i : Cursor) → k ≡ kind_of m → kind_at s c ≡ bytes.Got k i →
-      IsData v i m d → node-steps.Got m d ≡ node-steps.Got n e → IsNode v c n e
+  node-is : (v : ℕ) (c : Cursor) {n : Node} {e : Cursor} (m : Node) (d : Cursor) (k : ℕ) (i : Cursor) → k ≡ kind_of m → kind_at s c ≡ Ok (k, i) →
+      IsData v i m d → ◌≡◌ {A = Read Node} (Ok (m, d)) (Ok (n, e)) → IsNode v c n e
   node-is v c {n} {e} m d k i h p w q =
-      let x : m ≡ n = cc in
-      let y : d ≡ e = cc in
+      let (x, y) = same-read q in
       rw (← x, ← y) (record { inner = i; kind = rw h at (kind-read c p); holds = w })
 
-  pub node-read : (v : ℕ) (c : Cursor) {n : Node} {e : Cursor} → node_at s v c ≡ node-steps.Got n e → IsNode v c n e
+  pub node-read : (v : ℕ) (c : Cursor) {n : Node} {e : Cursor} → node_at s v c ≡ Ok (n, e) → IsNode v c n e
   unfolding node_at kind_of IsData
   node-read v c {n} {e} q =
-      byte-went _ _ _ no_node q λ k i p r.
-      kinds-by (λ a. a ≡ node-steps.Got n e → IsNode v c n e) k _ _ _ _ _ _ _ _
+      went _ _ _ no_err q λ (k, i) p r.
+      kinds-by (λ a. a ≡ Ok (n, e) → IsNode v c n e) k _ _ _ _ _ _ _ _
       (λ h w. node-is v c nodes.True i k i h p refl w)
-      (λ h w. step_went _ _ _ no_node w λ d x y. node-is v c (nodes.Compare (AtMost (record { at = i.at }))) d k i h p (refl, sum-read v i x) y)
-      (λ h w. step_went _ _ _ no_node w λ d x y. node-is v c (nodes.Compare (Equal (record { at = i.at }))) d k i h p (refl, sum-read v i x) y)
+      (λ h w. went _ _ _ no_err w λ d x y. node-is v c (nodes.Compare (AtMost (record { at = i.at }))) d k i h p (refl, sum-read v i x) y)
+      (λ h w. went _ _ _ no_err w λ d x y. node-is v c (nodes.Compare (Equal (record { at = i.at }))) d k i h p (refl, sum-read v i x) y)
       (λ h w. node-is v c nodes.Not i k i h p refl w)
       (λ h w. node-is v c nodes.And i k i h p refl w)
       (λ h w. node-is v c nodes.Or i k i h p refl w)
-      (λ h w. let x = remains-read v i w in node-is v c (nodes.Remainder x.0) e k i h p x.2 (ap (λ (m : Node). node-steps.Got m e) x.1))
-      (λ w. absurd (no_node _ w))
+      (λ h w. let x = remains-read v i w in node-is v c (nodes.Remainder x.0) e k i h p x.2 (ap (λ (m : Node). Ok (m, e)) x.1))
+      (λ w. absurd (no_err _ w))
       r
 
   -- ---- clause records
@@ -327,13 +241,13 @@ module _ (s : List ℕ) where
       go zero h = let z : c.at + 0 ≡ c.at = omega arith in rw (z, ← w.here.is) w.below
       go (suc j) h = let z : c.at + suc j ≡ c.at + 1 + j = omega arith in rw z (a.each j (omega arith))
 
-  pub arguments-read : (k v : ℕ) (c : Cursor) {e : Cursor} → c.at ≤ length s → arguments_at k s v c ≡ steps.Moved e → AreArguments v k c e
+  pub arguments-read : (k v : ℕ) (c : Cursor) {e : Cursor} → c.at ≤ length s → arguments_at k s v c ≡ Ok e → AreArguments v k c e
   unfolding arguments_at
   arguments-read zero v c {e} h q =
       let same : c ≡ e = cc in
       record { are = no_arguments v c.at h; next = sym same ∙ same-cursor (omega arith) refl }
   arguments-read (suc k) v c {e} h q =
-      byte-went _ _ _ no_step q λ b d p r.
+      went _ _ _ no_err q λ (b, d) p r.
       let w = variable-read v c p in
       let m : d.at ≡ c.at + 1 = at_of w.here.next in
       let t : c.at < length s = w.here.there in
@@ -351,16 +265,15 @@ module _ (s : List ℕ) where
     pub arguments : Arguments v (c.at + 1) (get_or s b 0)
     pub next : e ≡ moved (1 + get_or s b 0) c
 
-  pub fact-read : (n v : ℕ) (c : Cursor) {b : ℕ} {e : Cursor} → fact_at s n v c ≡ bytes.Got b e → IsFact n v c b e
+  pub fact-read : (n v : ℕ) (c : Cursor) {b : ℕ} {e : Cursor} → fact_at s n v c ≡ Ok (b, e) → IsFact n v c b e
   unfolding fact_at
   fact-read n v c {b} {e} q =
-      byte-went _ _ _ no_byte q λ a d p r.
-      step_went _ _ _ no_byte r λ f x y.
-      let same : a ≡ b = cc in
-      let last : f ≡ e = cc in
-      go d (relation-read n c (p ∙ ap (λ (k : ℕ). bytes.Got k d) same)) (rw (same, last) at x)
+      went _ _ _ no_err q λ (a, d) p r.
+      went _ _ _ no_err r λ f x y.
+      let (same, last) = same-read y in
+      go d (relation-read n c (p ∙ ap (λ (k : ℕ). Ok (k, d)) same)) (rw (same, last) at x)
     where
-      go : (d : Cursor) → IsBelow n c b d → arguments_at (get_or s b 0) s v d ≡ steps.Moved e → IsFact n v c b e
+      go : (d : Cursor) → IsBelow n c b d → arguments_at (get_or s b 0) s v d ≡ Ok e → IsFact n v c b e
       go d w x =
           let m : d.at ≡ c.at + 1 = at_of w.here.next in
           let t : c.at < length s = w.here.there in
@@ -377,17 +290,17 @@ module _ (s : List ℕ) where
   abbrev pub IsBody : ℕ → ℕ → Cursor → ℕ → Cursor → Type 0
   IsBody n v c b e = ((b ≡ 255) × IsByte c b e) ⊎ ((b ≡ 255 → ⊥) × IsFact n v c b e)
 
-  pub body-read : (n v : ℕ) (c : Cursor) {b : ℕ} {e : Cursor} → body_at s n v c ≡ bytes.Got b e → IsBody n v c b e
+  pub body-read : (n v : ℕ) (c : Cursor) {b : ℕ} {e : Cursor} → body_at s n v c ≡ Ok (b, e) → IsBody n v c b e
   unfolding body_at
   body-read n v c {b} {e} q =
-      byte-went _ _ _ no_byte q λ a d p r.
-      pick-by (λ x. x ≡ bytes.Got b e → IsBody n v c b e) (eqb a 255) _ _
+      went _ _ _ no_err q λ (a, d) p r.
+      pick-by (λ x. x ≡ Ok (b, e) → IsBody n v c b e) (eqb a 255) _ _
       (λ t w. let same : a ≡ b = cc in inl (sym same ∙ eqb-true a 255 t, byte-read c (p ∙ w)))
       (λ t w. let f = fact-read n v c w in inr (λ z. eqb-false a 255 t ((byte-read c p).is ∙ sym f.is ∙ z), f))
       r
 
   -- the number of variables, body, head, and where the constraint starts
-  pub record IsParts (n : ℕ) (c : Cursor) (l : Clause'.Clause) (e : Cursor) : Type 0 where
+  pub record IsParts (n : ℕ) (c : Cursor) (l : Clause) (e : Cursor) : Type 0 where
     pub first : Cursor
     pub second : Cursor
     pub variables : IsBelow 17 c l.variables first
@@ -397,14 +310,13 @@ module _ (s : List ℕ) where
     pub head_at : l.head_at ≡ second.at
     pub rule : l.rule ≡ e.at
 
-  pub parts-read : (n : ℕ) (c : Cursor) {l : Clause'.Clause} {e : Cursor} → parts_at s n c ≡ clauses.Got l e → IsParts n c l e
+  pub parts-read : (n : ℕ) (c : Cursor) {l : Clause} {e : Cursor} → parts_at s n c ≡ Ok (l, e) → IsParts n c l e
   unfolding parts_at
   parts-read n c {l} {e} q =
-      byte-went _ _ _ no-clause q λ v c1 p1 q1.
-      byte-went _ _ _ no-clause q1 λ b c2 p2 q2.
-      byte-went _ _ _ no-clause q2 λ h c3 p3 q3.
-      let same : record { variables = v; body = b; body_at = c1.at; head = h; head_at = c2.at; rule = c3.at } ≡ l = cc in
-      let last : c3 ≡ e = cc in
+      went _ _ _ no_err q λ (v, c1) p1 q1.
+      went _ _ _ no_err q1 λ (b, c2) p2 q2.
+      went _ _ _ no_err q2 λ (h, c3) p3 q3.
+      let (same, last) = same-read q3 in
       rw (← same, ← last) (record {
         first = c1;
         second = c2;
@@ -417,28 +329,27 @@ module _ (s : List ℕ) where
       })
 
   -- a constraint that was read is a tree
-  pub constraint-read : (depth v : ℕ) (c : Cursor) {e : Cursor} → constraint_at depth s v c ≡ steps.Moved e → (t : Constraint) × (tree_at s v depth c ≡ got t e)
+  pub constraint-read : (depth v : ℕ) (c : Cursor) {e : Cursor} → constraint_at depth s v c ≡ Ok e → (t : Constraint) × (tree_at s v depth c ≡ Ok (t, e))
   unfolding trees.moved
   constraint-read depth v c {e} q = go (tree_at s v depth c) (tree-read s v depth c ∙ q)
     where
-      go : (y : Got Constraint) → trees.moved y ≡ steps.Moved e → (t : Constraint) × (y ≡ got t e)
-      go (got t d) k = let same : d ≡ e = cc in (t, ap (got t) same)
-      go (no r) k = absurd (no_step r k)
+      go : (y : Read Constraint) → trees.moved y ≡ Ok e → (t : Constraint) × (y ≡ Ok (t, e))
+      go (Ok (t, d)) k = let same : d ≡ e = cc in (t, ap (λ (c : Cursor). Ok (t, c)) same)
+      go (Err r) k = absurd (no_err r k)
 
-  pub record IsClause (n : ℕ) (c : Cursor) (l : Clause'.Clause) (e : Cursor) : Type 0 where
+  pub record IsClause (n : ℕ) (c : Cursor) (l : Clause) (e : Cursor) : Type 0 where
     pub middle : Cursor
     pub parts : IsParts n c l middle
-    pub same : parts_at s n c ≡ clauses.Got l middle
+    pub same : parts_at s n c ≡ Ok (l, middle)
     pub tree : Constraint
-    pub reads : tree_at s l.variables 16 (record { at = l.rule; left = 64 }) ≡ got tree e
+    pub reads : tree_at s l.variables 16 (record { at = l.rule; left = 64 }) ≡ Ok (tree, e)
 
-  pub clause-read : (n : ℕ) (c : Cursor) {l : Clause'.Clause} {e : Cursor} → clause_at s n c ≡ clauses.Got l e → IsClause n c l e
+  pub clause-read : (n : ℕ) (c : Cursor) {l : Clause} {e : Cursor} → clause_at s n c ≡ Ok (l, e) → IsClause n c l e
   unfolding clause_at
   clause-read n c {l} {e} q =
-      clause-went _ _ _ no-clause q λ k i p r.
-      step_went _ _ _ no-clause r λ d x y.
-      let one : k ≡ l = cc in
-      let last : d ≡ e = cc in
+      went _ _ _ no_err q λ (k, i) p r.
+      went _ _ _ no_err r λ d x y.
+      let (one, last) = same-read y in
       let w = parts-read n c p in
       let t = constraint-read 16 k.variables (record { at = i.at; left = 64 }) x in
       rw (← one, ← last) (record { middle = i; parts = w; same = p; tree = t.0; reads = rw w.rule t.1 })
@@ -457,27 +368,26 @@ module _ (s : List ℕ) (v : ℕ) (P : ℕ → Cursor → Constraint → Cursor 
         P (suc d) c (remainder (sum_of s v i.at) m.d m.r) e
 
   module _ (keeps : Keeps) where
-    is-grown : (d : ℕ) (c : Cursor) {t u : Constraint} {e f : Cursor} → P d c t e → got t e ≡ got u f → P d c u f
+    is-grown : (d : ℕ) (c : Cursor) {t u : Constraint} {e f : Cursor} → P d c t e → ◌≡◌ {A = Read Constraint} (Ok (t, e)) (Ok (u, f)) → P d c u f
     is-grown d c {t} {u} {e} {f} w q =
-        let x : t ≡ u = cc in
-        let y : e ≡ f = cc in
+        let (x, y) = same-read q in
         rw (← x, ← y) w
 
-    grown : (d : ℕ) (read : Cursor → Got Constraint) → ((c : Cursor) (t : Constraint) (e : Cursor) → read c ≡ got t e → P d c t e) →
-        (n : Node) (c : Cursor) {i e : Cursor} {t : Constraint} → IsNode s v c n i → grow s v n read i ≡ got t e → P (suc d) c t e
+    grown : (d : ℕ) (read : Cursor → Read Constraint) → ((c : Cursor) (t : Constraint) (e : Cursor) → read c ≡ Ok (t, e) → P d c t e) →
+        (n : Node) (c : Cursor) {i e : Cursor} {t : Constraint} → IsNode s v c n i → grow s v n read i ≡ Ok (t, e) → P (suc d) c t e
     unfolding kind_of IsData grow
     grown d read h nodes.True c w q = is-grown (suc d) c (keeps.truths (rw w.holds w.kind)) q
     grown d read h (nodes.Compare (AtMost a)) c w q = is-grown (suc d) c (rw w.holds.0 (keeps.at-mosts w.kind w.holds.1)) q
     grown d read h (nodes.Compare (Equal a)) c w q = is-grown (suc d) c (rw w.holds.0 (keeps.equals w.kind w.holds.1)) q
     grown d read h nodes.Not c {i} w q =
-        then-went _ _ q λ t e p r. is-grown (suc d) c (keeps.nots (rw w.holds w.kind) (h i _ _ p)) r
+        went _ _ _ no_err q λ (t, e) p r. is-grown (suc d) c (keeps.nots (rw w.holds w.kind) (h i _ _ p)) r
     grown d read h nodes.And c {i} w q =
-        then-went _ _ q λ t j p r. then-went _ _ r λ u e x y. is-grown (suc d) c (keeps.ands (rw w.holds w.kind) (h i _ _ p) (h j _ _ x)) y
+        went _ _ _ no_err q λ (t, j) p r. went _ _ _ no_err r λ (u, e) x y. is-grown (suc d) c (keeps.ands (rw w.holds w.kind) (h i _ _ p) (h j _ _ x)) y
     grown d read h nodes.Or c {i} w q =
-        then-went _ _ q λ t j p r. then-went _ _ r λ u e x y. is-grown (suc d) c (keeps.ors (rw w.holds w.kind) (h i _ _ p) (h j _ _ x)) y
+        went _ _ _ no_err q λ (t, j) p r. went _ _ _ no_err r λ (u, e) x y. is-grown (suc d) c (keeps.ors (rw w.holds w.kind) (h i _ _ p) (h j _ _ x)) y
     grown d read h (nodes.Remainder m) c w q = is-grown (suc d) c (rw w.holds.sum (keeps.remainders w.kind w.holds)) q
 
-    pub tree-by : (d : ℕ) (c : Cursor) {t : Constraint} {e : Cursor} → tree_at s v d c ≡ got t e → P d c t e
+    pub tree-by : (d : ℕ) (c : Cursor) {t : Constraint} {e : Cursor} → tree_at s v d c ≡ Ok (t, e) → P d c t e
     unfolding tree_at
-    tree-by zero c q = byte-went _ _ _ no-tree q λ b e p r. absurd (no-tree _ r)
-    tree-by (suc d) c q = node-went _ _ _ no-tree q λ n i p r. grown d (tree_at s v d) (λ j t e. tree-by d j) n c (node-read s v c p) r
+    tree-by zero c q = went _ _ _ no_err q λ (b, e) p r. absurd (no_err _ r)
+    tree-by (suc d) c q = went _ _ _ no_err q λ (n, i) p r. grown d (tree_at s v d) (λ j t e. tree-by d j) n c (node-read s v c p) r

@@ -1,13 +1,10 @@
 -- The meaning's clause that a record holds.
-use Rattle.std.specs.Prelude.{ℕ, ◌+◌, List, get_or, take, drop, eqb}
+use Rattle.std.specs.Prelude.{ℕ, ◌+◌, List, get_or, take, drop, eqb, Ok, Err}
 use Rattle.std.proofs.Math.Option.{Option, none, some}
 use Rattle.meaning.specs.Constraint.{Constraint, truth}
 use Rattle.meaning.specs.Book as meant
 use Rattle.cursor.specs.declared.Clause.{Clause}
-use Rattle.cursor.specs.declared.ClauseStep.{ClauseStep}
-use Rattle.cursor.specs.declared.ClauseStep.TheVariants.{Got, Refused}
-use Rattle.cursor.specs.Steps.{pick}
-use Rattle.cursor.specs.Tree as trees
+use Rattle.cursor.specs.Steps.{pick, Read}
 use Rattle.cursor.specs.Tree.{tree_at}
 
 -- relation b with the arguments that stand after the place p; the arities stand at the front of s
@@ -18,9 +15,9 @@ atom_in s b p = record { rel = b; args = take (get_or s b 0) (drop (p + 1) s) }
 unfoldable pub body_in : List ℕ → ℕ → ℕ → Option meant.Atom
 body_in s b p = pick (eqb b 255) none (some (atom_in s b p))
 
-unfoldable pub tree_of : trees.Got Constraint → Constraint
-tree_of (trees.got t c) = t
-tree_of (trees.no r) = truth
+unfoldable pub tree_of : Read Constraint → Constraint
+tree_of (Ok (t, c)) = t
+tree_of (Err r) = truth
 
 -- the constraint at p, over v variables
 unfoldable pub tree_in : List ℕ → ℕ → ℕ → Constraint
@@ -35,6 +32,6 @@ clause_in s l = record {
   rule = tree_in s l.variables l.rule;
 }
 
-unfoldable pub clause_or : List ℕ → ClauseStep → meant.Clause
-clause_or s (Got l past) = clause_in s l
-clause_or s (Refused r) = meant.none_such
+unfoldable pub clause_or : List ℕ → Read Clause → meant.Clause
+clause_or s (Ok (l, past)) = clause_in s l
+clause_or s (Err r) = meant.none_such

@@ -1,5 +1,5 @@
 -- What a clause record that was read is like: its relations are there, its arguments are variables, its constraint is a tree.
-use Rattle.std.specs.Prelude.{ℕ, ◌+◌, ◌*◌, ◌<◌, ◌≤◌, ◌≡◌, ◌⊎◌, List, length, get_or}
+use Rattle.std.specs.Prelude.{ℕ, ◌+◌, ◌*◌, ◌<◌, ◌≤◌, ◌≡◌, ◌⊎◌, List, length, get_or, Ok}
 use Rattle.std.proofs.Common.{arith, sym, ◌∙◌, inl, inr}
 use Rattle.meaning.specs.Constraint.{Constraint}
 use Rattle.cursor.specs.declared.Cursor.{Cursor}
@@ -8,14 +8,10 @@ use Rattle.cursor.specs.declared.Comparison.TheVariants.{AtMost, Equal}
 use Rattle.cursor.specs.declared.Remains.{Remains}
 use Rattle.cursor.specs.declared.Node.{Node}
 use Rattle.cursor.specs.declared.Node.TheVariants as nodes
-use Rattle.cursor.specs.declared.NodeStep.{NodeStep}
-use Rattle.cursor.specs.declared.NodeStep.TheVariants as node-steps
 use Rattle.cursor.specs.declared.Clause.{Clause}
-use Rattle.cursor.specs.declared.ClauseStep.{ClauseStep}
-use Rattle.cursor.specs.declared.ClauseStep.TheVariants as clauses
-use Rattle.cursor.specs.Steps.{node_at}
+use Rattle.cursor.specs.Steps.{node_at, Read}
 use Rattle.cursor.specs.Clause.{parts_at, clause_at}
-use Rattle.cursor.specs.Tree.{got, tree_at}
+use Rattle.cursor.specs.Tree.{tree_at}
 use Rattle.cursor.specs.Inverse.{at_of, IsData, IsBody, Keeps, node-read, clause-read, tree-by}
 pub use Rattle.cursor.specs.Inverse.{Arguments}
 
@@ -24,7 +20,7 @@ module _ (s : List ℕ) where
   pub record IsTree (v p : ℕ) : Type 0 where
     pub tree : Constraint
     pub end : Cursor
-    pub reads : tree_at s v 16 (record { at = p; left = 64 }) ≡ got tree end
+    pub reads : tree_at s v 16 (record { at = p; left = 64 }) ≡ Ok (tree, end)
 
   pub record Sound (n : ℕ) (l : Clause) : Type 0 where
     pub few : l.variables < 17
@@ -39,7 +35,7 @@ module _ (s : List ℕ) where
   body-sound n v p c b e q (inr (z, w)) = inr (w.below, rw q w.arguments)
 
   module _ (n : ℕ) (c : Cursor) (l : Clause) (e : Cursor) where
-    pub sound : clause_at s n c ≡ clauses.Got l e → Sound n l
+    pub sound : clause_at s n c ≡ Ok (l, e) → Sound n l
     sound q =
         let w = clause-read s n c q in
         let p = w.parts in
@@ -53,7 +49,7 @@ module _ (s : List ℕ) where
         }
 
     -- the parts alone read the same record
-    pub parts-of : clause_at s n c ≡ clauses.Got l e → (d : Cursor) × (parts_at s n c ≡ clauses.Got l d)
+    pub parts-of : clause_at s n c ≡ Ok (l, e) → (d : Cursor) × (parts_at s n c ≡ Ok (l, d))
     parts-of q = let w = clause-read s n c q in (w.middle, w.same)
 
   -- a tree lies within the bytes
@@ -76,7 +72,7 @@ module _ (s : List ℕ) where
   tree-part v p w = tree-by s v Within (within v) 16 _ w.reads
 
   -- so does a clause's
-  pub clause-part : (n : ℕ) (c : Cursor) (l : Clause) (e : Cursor) {r : ClauseStep} → r ≡ clause_at s n c → r ≡ clauses.Got l e →
+  pub clause-part : (n : ℕ) (c : Cursor) (l : Clause) (e : Cursor) {r : Read Clause} → r ≡ clause_at s n c → r ≡ Ok (l, e) →
       (l.rule ≤ e.at) × (e.at ≤ length s)
   clause-part n c l e p q = let w = clause-read s n c (sym p ∙ q) in tree-by s l.variables Within (within l.variables) 16 _ w.reads
 
@@ -112,7 +108,7 @@ module _ (s : List ℕ) where
 
 -- what a node that was read tells of its data
 module _ (s : List ℕ) (v : ℕ) where
-  pub node-known : (c : Cursor) (n : Node) {e : Cursor} {r : NodeStep} → r ≡ node_at s v c → r ≡ node-steps.Got n e → NodeThere s v n
+  pub node-known : (c : Cursor) (n : Node) {e : Cursor} {r : Read Node} → r ≡ node_at s v c → r ≡ Ok (n, e) → NodeThere s v n
   node-known c n {e} p q = let w = node-read s v c (sym p ∙ q) in data-there s v w.inner n e w.holds
 
   pub compare-known : (n : Node) (a : Comparison) → NodeThere s v n → n ≡ nodes.Compare a → CompareThere s v a

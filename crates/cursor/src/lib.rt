@@ -6,6 +6,8 @@ ghost use Rattle.cursor.specs.Steps.{byte_at, below_at, relation_at, variable_at
 ghost use Rattle.cursor.specs.Walk.{constraint_at};
 ghost use Rattle.cursor.specs.Clause.{arguments_at, fact_at, body_at, parts_at, clause_at};
 
+use reply::{Refusal, refuse};
+
 // A place in the bytes, and how many nodes a constraint may still have.
 #[derive(Clone, Copy)]
 pub struct Cursor {
@@ -13,26 +15,8 @@ pub struct Cursor {
     pub left: usize,
 }
 
-// A byte with the cursor past it, or the refusal.
-#[derive(Clone, Copy)]
-pub enum Byte {
-    Got(u8, Cursor),
-    Refused(reply::Refusal),
-}
-
-// A two-byte number with the cursor past it, or the refusal.
-#[derive(Clone, Copy)]
-pub enum Number {
-    Got(u16, Cursor),
-    Refused(reply::Refusal),
-}
-
-// A cursor that moved on, or the refusal.
-#[derive(Clone, Copy)]
-pub enum Step {
-    Moved(Cursor),
-    Refused(reply::Refusal),
-}
+// What was read, with the cursor past it, or the refusal.
+pub type Reading<T> = Result<(T, Cursor), Refusal>;
 
 // Where a sum's coefficients start.
 #[derive(Clone, Copy)]
@@ -66,13 +50,6 @@ pub enum Node {
     Remainder(Remains),
 }
 
-// A node with the cursor past it, or the refusal.
-#[derive(Clone, Copy)]
-pub enum NodeStep {
-    Got(Node, Cursor),
-    Refused(reply::Refusal),
-}
-
 // A clause record's parts, by the places where they start.
 #[derive(Clone, Copy)]
 pub struct Clause {
@@ -84,326 +61,226 @@ pub struct Clause {
     pub rule: usize,
 }
 
-// A clause record's parts with the cursor past them, or the refusal.
-#[derive(Clone, Copy)]
-pub enum ClauseStep {
-    Got(Clause, Cursor),
-    Refused(reply::Refusal),
-}
-
 impl Cursor {
     // one byte
-    pub fn byte(self, s: &[u8]) -> Byte
+    #[tactic(auto, unfolding(crate::specs::Steps::byte_at, crate::specs::Steps::pick, reply::specs::Then::go_on))]
+    pub fn byte(self, s: &[u8]) -> Reading<u8>
         ensures { result ≡ byte_at s.now self }
     {
         let at = self.at;
         if at < s.len() {
-            Byte::Got(
-                s[at],
-                Cursor {
-                    at: at + 1,
-                    left: self.left,
-                },
-            )
+            Ok((s[at], Cursor { at: at + 1, ..self }))
         } else {
-            Byte::Refused(reply::Refusal {
-                number: 8,
-                place: s.len(),
-            })
+            refuse(8, s.len())
         }
     }
 
     // a byte below n, else the refusal with this number at its place
-    fn below(self, s: &[u8], n: u8, number: u8) -> Byte
+    #[tactic(auto, unfolding(crate::specs::Steps::below_at, crate::specs::Steps::pick, reply::specs::Then::go_on))]
+    fn below(self, s: &[u8], n: u8, number: u8) -> Reading<u8>
         ensures { result ≡ below_at number s.now n self }
     {
-        match self.byte(s) {
-            Byte::Refused(r) => Byte::Refused(r),
-            Byte::Got(b, c) => {
-                if b < n {
-                    Byte::Got(b, c)
-                } else {
-                    Byte::Refused(reply::Refusal {
-                        number: number,
-                        place: self.at,
-                    })
-                }
-            }
+        let (b, c) = self.byte(s)?;
+        if b < n {
+            Ok((b, c))
+        } else {
+            refuse(number, self.at)
         }
     }
 
     // a relation's number, below n
-    pub fn relation(self, s: &[u8], n: u8) -> Byte
+    #[tactic(auto, unfolding(crate::specs::Steps::relation_at, crate::specs::Steps::pick, reply::specs::Then::go_on))]
+    pub fn relation(self, s: &[u8], n: u8) -> Reading<u8>
         ensures { result ≡ relation_at s.now n self }
     {
         self.below(s, n, 5)
     }
 
     // a variable's number, below v
-    pub fn variable(self, s: &[u8], v: u8) -> Byte
+    #[tactic(auto, unfolding(crate::specs::Steps::variable_at, crate::specs::Steps::pick, reply::specs::Then::go_on))]
+    pub fn variable(self, s: &[u8], v: u8) -> Reading<u8>
         ensures { result ≡ variable_at s.now v self }
     {
         self.below(s, v, 6)
     }
 
     // past n bytes
-    pub fn skip(self, s: &[u8], n: usize) -> Step
+    #[tactic(auto, unfolding(crate::specs::Steps::skip_at, crate::specs::Steps::pick, reply::specs::Then::go_on))]
+    pub fn skip(self, s: &[u8], n: usize) -> Result<Cursor, Refusal>
         ensures { result ≡ skip_at s.now n self }
     {
         let at = self.at;
-        if at <= s.len() {
-            if n <= s.len() - at {
-                return Step::Moved(Cursor {
-                    at: at + n,
-                    left: self.left,
-                });
-            }
+        if at <= s.len() && n <= s.len() - at {
+            Ok(Cursor { at: at + n, ..self })
+        } else {
+            refuse(8, s.len())
         }
-        Step::Refused(reply::Refusal {
-            number: 8,
-            place: s.len(),
-        })
     }
 
     // a number of two bytes
-    pub fn number(self, s: &[u8]) -> Number
+    #[tactic(auto, unfolding(crate::specs::Steps::number_at, crate::specs::Steps::pick, reply::specs::Then::go_on))]
+    pub fn number(self, s: &[u8]) -> Reading<u16>
         ensures { result ≡ number_at s.now self }
     {
-        match self.skip(s, 2) {
-            Step::Refused(r) => Number::Refused(r),
-            Step::Moved(c) => {
-                let at = self.at;
-                Number::Got(whole::u16_at(s, at), c)
-            }
-        }
+        let c = self.skip(s, 2)?;
+        Ok((whole::u16_at(s, self.at), c))
     }
 
     // the kind byte of a node, with the cursor's nodes left
-    pub fn kind(self, s: &[u8]) -> Byte
+    #[tactic(auto, unfolding(crate::specs::Steps::kind_at, crate::specs::Steps::pick, reply::specs::Then::go_on))]
+    pub fn kind(self, s: &[u8]) -> Reading<u8>
         ensures { result ≡ kind_at s.now self }
     {
-        match self.byte(s) {
-            Byte::Refused(r) => Byte::Refused(r),
-            Byte::Got(k, c) => {
-                if 0 < c.left {
-                    Byte::Got(
-                        k,
-                        Cursor {
-                            at: c.at,
-                            left: c.left - 1,
-                        },
-                    )
-                } else {
-                    Byte::Refused(reply::Refusal {
-                        number: 7,
-                        place: self.at,
-                    })
-                }
-            }
+        let (k, c) = self.byte(s)?;
+        if 0 < c.left {
+            Ok((
+                k,
+                Cursor {
+                    left: c.left - 1,
+                    ..c
+                },
+            ))
+        } else {
+            refuse(7, self.at)
         }
     }
 
     // v coefficients and the constant
-    pub fn sum(self, s: &[u8], v: u8) -> Step
+    #[tactic(auto, unfolding(crate::specs::Steps::sum_at, crate::specs::Steps::pick, reply::specs::Then::go_on))]
+    pub fn sum(self, s: &[u8], v: u8) -> Result<Cursor, Refusal>
         ensures { result ≡ sum_at s.now v self }
     {
         self.skip(s, (v as usize) * 2 + 4)
     }
 
     // a remainder node's data
-    pub fn remains(self, s: &[u8], v: u8) -> NodeStep
+    #[tactic(auto, unfolding(crate::specs::Steps::remains_at, crate::specs::Steps::pick, reply::specs::Then::go_on))]
+    pub fn remains(self, s: &[u8], v: u8) -> Reading<Node>
         ensures { result ≡ remains_at s.now v self }
     {
-        match self.sum(s, v) {
-            Step::Refused(r) => NodeStep::Refused(r),
-            Step::Moved(c) => match c.number(s) {
-                Number::Refused(r) => NodeStep::Refused(r),
-                Number::Got(d, c2) => {
-                    if d == 0 {
-                        return NodeStep::Refused(reply::Refusal {
-                            number: 7,
-                            place: c.at,
-                        });
-                    }
-                    match c2.number(s) {
-                        Number::Refused(r) => NodeStep::Refused(r),
-                        Number::Got(m, c3) => {
-                            if m < d {
-                                NodeStep::Got(
-                                    Node::Remainder(Remains {
-                                        sum: Atom { at: self.at },
-                                        d: d,
-                                        r: m,
-                                    }),
-                                    c3,
-                                )
-                            } else {
-                                NodeStep::Refused(reply::Refusal {
-                                    number: 7,
-                                    place: c2.at,
-                                })
-                            }
-                        }
-                    }
-                }
-            },
+        let divisor = self.sum(s, v)?;
+        let (d, rest) = divisor.number(s)?;
+        if d == 0 {
+            return refuse(7, divisor.at);
+        }
+        let (r, c) = rest.number(s)?;
+        if r < d {
+            let sum = Atom { at: self.at };
+            Ok((Node::Remainder(Remains { sum, d, r }), c))
+        } else {
+            refuse(7, rest.at)
         }
     }
 
     // a node: its kind and the data that is its own
-    pub fn node(self, s: &[u8], v: u8) -> NodeStep
+    #[tactic(auto, unfolding(crate::specs::Steps::node_at, crate::specs::Steps::kinds, crate::specs::Steps::pick, reply::specs::Then::go_on))]
+    pub fn node(self, s: &[u8], v: u8) -> Reading<Node>
         ensures { result ≡ node_at s.now v self }
     {
-        match self.kind(s) {
-            Byte::Refused(r) => NodeStep::Refused(r),
-            Byte::Got(k, c) => match k {
-                0 => NodeStep::Got(Node::True, c),
-                1 => match c.sum(s, v) {
-                    Step::Refused(r) => NodeStep::Refused(r),
-                    Step::Moved(c2) => {
-                        NodeStep::Got(Node::Compare(Comparison::AtMost(Atom { at: c.at })), c2)
-                    }
-                },
-                2 => match c.sum(s, v) {
-                    Step::Refused(r) => NodeStep::Refused(r),
-                    Step::Moved(c2) => {
-                        NodeStep::Got(Node::Compare(Comparison::Equal(Atom { at: c.at })), c2)
-                    }
-                },
-                3 => NodeStep::Got(Node::Not, c),
-                4 => NodeStep::Got(Node::And, c),
-                5 => NodeStep::Got(Node::Or, c),
-                6 => c.remains(s, v),
-                _ => NodeStep::Refused(reply::Refusal {
-                    number: 7,
-                    place: self.at,
-                }),
-            },
+        let (k, c) = self.kind(s)?;
+        match k {
+            0 => Ok((Node::True, c)),
+            1 => {
+                let end = c.sum(s, v)?;
+                Ok((Node::Compare(Comparison::AtMost(Atom { at: c.at })), end))
+            }
+            2 => {
+                let end = c.sum(s, v)?;
+                Ok((Node::Compare(Comparison::Equal(Atom { at: c.at })), end))
+            }
+            3 => Ok((Node::Not, c)),
+            4 => Ok((Node::And, c)),
+            5 => Ok((Node::Or, c)),
+            6 => c.remains(s, v),
+            _ => refuse(7, self.at),
         }
     }
 
     // a whole constraint, of at most depth levels
-    pub fn constraint(self, s: &[u8], v: u8, depth: usize) -> Step
+    pub fn constraint(self, s: &[u8], v: u8, depth: usize) -> Result<Cursor, Refusal>
         ensures { result ≡ constraint_at depth s.now v self }
     {
         if depth == 0 {
-            return match self.byte(s) {
-                Byte::Refused(r) => Step::Refused(r),
-                Byte::Got(_, _) => Step::Refused(reply::Refusal {
-                    number: 7,
-                    place: self.at,
-                }),
-            };
+            self.byte(s)?;
+            return refuse(7, self.at);
         }
-        match self.node(s, v) {
-            NodeStep::Refused(r) => Step::Refused(r),
-            NodeStep::Got(n, c) => match n {
-                Node::True => Step::Moved(c),
-                Node::Compare(_) => Step::Moved(c),
-                Node::Remainder(_) => Step::Moved(c),
-                Node::Not => c.constraint(s, v, depth - 1),
-                Node::And => match c.constraint(s, v, depth - 1) {
-                    Step::Refused(r) => Step::Refused(r),
-                    Step::Moved(c2) => c2.constraint(s, v, depth - 1),
-                },
-                Node::Or => match c.constraint(s, v, depth - 1) {
-                    Step::Refused(r) => Step::Refused(r),
-                    Step::Moved(c2) => c2.constraint(s, v, depth - 1),
-                },
-            },
+        let (n, c) = self.node(s, v)?;
+        match n {
+            Node::True | Node::Compare(_) | Node::Remainder(_) => Ok(c),
+            Node::Not => c.constraint(s, v, depth - 1),
+            Node::And | Node::Or => {
+                let c = c.constraint(s, v, depth - 1)?;
+                c.constraint(s, v, depth - 1)
+            }
         }
     }
 
     // past count arguments, each a variable's number
-    pub fn arguments(self, s: &[u8], v: u8, count: u8) -> Step
+    pub fn arguments(self, s: &[u8], v: u8, count: u8) -> Result<Cursor, Refusal>
         ensures { result ≡ arguments_at count s.now v self }
     {
         let mut c = self;
-        let mut k = count;
-        while 0 < k {
-            match c.variable(s, v) {
-                Byte::Refused(r) => return Step::Refused(r),
-                Byte::Got(_, next) => {
-                    c = next;
-                }
-            }
-            k -= 1;
+        for _ in 0..count {
+            let (_, next) = c.variable(s, v)?;
+            c = next;
         }
-        Step::Moved(c)
+        Ok(c)
     }
 
     // a relation and its arguments
-    pub fn fact(self, s: &[u8], n: u8, v: u8) -> Byte
+    #[tactic(auto, unfolding(crate::specs::Clause::fact_at, crate::specs::Steps::pick, reply::specs::Then::go_on))]
+    pub fn fact(self, s: &[u8], n: u8, v: u8) -> Reading<u8>
         requires { n ≤ length s.now }
         ensures { result ≡ fact_at s.now n v self }
     {
-        match self.relation(s, n) {
-            Byte::Refused(r) => Byte::Refused(r),
-            Byte::Got(b, c) => match c.arguments(s, v, s[b as usize]) {
-                Step::Refused(r) => Byte::Refused(r),
-                Step::Moved(c2) => Byte::Got(b, c2),
-            },
-        }
+        let (b, c) = self.relation(s, n)?;
+        let c = c.arguments(s, v, s[b as usize])?;
+        Ok((b, c))
     }
 
     // a body: 255 for none, or a relation and its arguments
-    pub fn body(self, s: &[u8], n: u8, v: u8) -> Byte
+    #[tactic(auto, unfolding(crate::specs::Clause::body_at, crate::specs::Steps::pick, reply::specs::Then::go_on))]
+    pub fn body(self, s: &[u8], n: u8, v: u8) -> Reading<u8>
         requires { n ≤ length s.now }
         ensures { result ≡ body_at s.now n v self }
     {
-        match self.byte(s) {
-            Byte::Refused(r) => Byte::Refused(r),
-            Byte::Got(b, c) => {
-                if b == 255 {
-                    Byte::Got(b, c)
-                } else {
-                    self.fact(s, n, v)
-                }
-            }
+        let (b, c) = self.byte(s)?;
+        if b == 255 {
+            Ok((b, c))
+        } else {
+            self.fact(s, n, v)
         }
     }
 
     // a clause record up to its constraint: where its parts stand
-    pub fn parts(self, s: &[u8], n: u8) -> ClauseStep
+    #[tactic(auto, unfolding(crate::specs::Clause::parts_at, crate::specs::Steps::pick, reply::specs::Then::go_on))]
+    pub fn parts(self, s: &[u8], n: u8) -> Reading<Clause>
         requires { n ≤ length s.now }
         ensures { result ≡ parts_at s.now n self }
     {
-        match self.variable(s, 17) {
-            Byte::Refused(r) => ClauseStep::Refused(r),
-            Byte::Got(v, c1) => match c1.body(s, n, v) {
-                Byte::Refused(r) => ClauseStep::Refused(r),
-                Byte::Got(b, c2) => match c2.fact(s, n, v) {
-                    Byte::Refused(r) => ClauseStep::Refused(r),
-                    Byte::Got(h, c3) => ClauseStep::Got(
-                        Clause {
-                            variables: v,
-                            body: b,
-                            body_at: c1.at,
-                            head: h,
-                            head_at: c2.at,
-                            rule: c3.at,
-                        },
-                        c3,
-                    ),
-                },
-            },
-        }
+        let (variables, c1) = self.variable(s, 17)?;
+        let (body, c2) = c1.body(s, n, variables)?;
+        let (head, c3) = c2.fact(s, n, variables)?;
+        let parts = Clause {
+            variables,
+            body,
+            body_at: c1.at,
+            head,
+            head_at: c2.at,
+            rule: c3.at,
+        };
+        Ok((parts, c3))
     }
 
     // a whole clause record
-    pub fn clause(self, s: &[u8], n: u8) -> ClauseStep
+    #[tactic(auto, unfolding(crate::specs::Clause::clause_at, crate::specs::Steps::pick, reply::specs::Then::go_on))]
+    pub fn clause(self, s: &[u8], n: u8) -> Reading<Clause>
         requires { n ≤ length s.now }
         ensures { result ≡ clause_at s.now n self }
     {
-        match self.parts(s, n) {
-            ClauseStep::Refused(r) => ClauseStep::Refused(r),
-            ClauseStep::Got(l, c) => {
-                let start = Cursor { at: c.at, left: 64 };
-                match start.constraint(s, l.variables, 16) {
-                    Step::Refused(r) => ClauseStep::Refused(r),
-                    Step::Moved(past) => ClauseStep::Got(l, past),
-                }
-            }
-        }
+        let (parts, c) = self.parts(s, n)?;
+        let start = Cursor { at: c.at, left: 64 };
+        let past = start.constraint(s, parts.variables, 16)?;
+        Ok((parts, past))
     }
 }

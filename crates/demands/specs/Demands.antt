@@ -6,9 +6,9 @@
 use Rattle.std.specs.Prelude.{ℕ, ◌+◌, ◌<◌, ◌≤◌, ◌^◌, ◌≡◌, ◌↔◌, ◌⊎◌, true, false, List, [], ◌∷◌, ◌++◌, length, get_or, take, drop, ℤ}
 use Rattle.std.proofs.Math.Option.{none, some}
 use Rattle.cursor.specs.declared.Clause as clauses
-use Rattle.reply.specs.declared.Answer as code
 pub mod Words
 use Words.*
+use Rattle.reply.specs.Answer.{Outcome}
 
 -- ==== Demand 1: every book, list and model, of any content, gets an answer by number
 
@@ -89,10 +89,10 @@ pub record Demand2 (s : List ℕ) : Type 0 where
   -- ---- Derivations and traces -----------------------------------------------------------------------------
   -- `Asked`: the goal fits the book, and the list has 1 to 1,000,000 numbers.
   -- accepted exactly when the list is the numbers of a derivation d of the goal in the book that the bytes hold
-  pub derivation-exact : (l : List ℤ) (g : Fact) (x : code.Answer) → CheckDerivation s l g x
+  pub derivation-exact : (l : List ℤ) (g : Fact) (x : Outcome) → CheckDerivation s l g x
       → (x ≡ Done 0) ↔ ((b : Book) × Holds s b × Asked b g.rel g.vals l × (d : List Step) × (numbers d ≡ l) × Derives b d g)
   -- accepted exactly when the list is the numbers of a trace, its first state σ and its moves ms, that reaches the goal there
-  pub trace-exact : (l : List ℤ) (g : Fact) (x : code.Answer) → CheckTrace s l g x
+  pub trace-exact : (l : List ℤ) (g : Fact) (x : Outcome) → CheckTrace s l g x
       → (x ≡ Done 0) ↔ ((b : Book) × Holds s b × Asked b g.rel g.vals l
       × (σ : State flags) × (ms : List (Move b (Flagged b))) × (trace_numbers b flags σ ms ≡ l) × Reaches b (Flagged b) σ ms g)
   -- each of its steps is document 01's, as a relation of two states (`StepsTo`): an instance whose body is met; afterwards the head's flag is set, its
@@ -128,9 +128,9 @@ pub record Demand2 (s : List ℕ) : Type 0 where
   pub model-unexamined : (m : List ℕ) (x : Reply) → CheckModel s m x → ¬ (number_of (told x) ≡ 0) → ¬ (number_of (told x) ≡ 25) → x.count ≡ 0
   -- ---- The text -------------------------------------------------------------------------------------------
   -- a room that holds it gets the text of the book, character for character; for a shorter one the reply is the needed length
-  pub text-written : (b : Book) → Holds s b → (d e : List ℕ) (x : code.Answer) → Print s d x e → length (text b) ≤ length d
+  pub text-written : (b : Book) → Holds s b → (d e : List ℕ) (x : Outcome) → Print s d x e → length (text b) ≤ length d
       → (x ≡ Done (length (text b))) × (e ≡ text b ++ drop (length (text b)) d)
-  pub text-short : (b : Book) → Holds s b → (d e : List ℕ) (x : code.Answer) → Print s d x e → length d < length (text b) → x ≡ Refused (refuse 9 (length (text b)))
+  pub text-short : (b : Book) → Holds s b → (d e : List ℕ) (x : Outcome) → Print s d x e → length d < length (text b) → x ≡ Refused (refuse 9 (length (text b)))
   -- a parser that knows nothing of the printer gets its lines back
   pub text-parses : (b : Book) → parse (text b) ≡ some (script b)
 
@@ -154,19 +154,19 @@ pub record Demand3 (s : List ℕ) (b : Book) : Type 0 where
       → last_writers b f.rel (steps b (Flagged b) (moves b (Flagged b) (first b flags) d)) ≡ d
   -- ---- On the conversions: `as_trace` and `as_derivation` are those two as lists of numbers -----------------
   -- a trace is written exactly when the derivation is accepted, and a million numbers and the room hold the trace
-  pub to-trace-exact : (l d e : List ℤ) (g : Fact) (x : code.Answer) → ToTrace s l g d x e
+  pub to-trace-exact : (l d e : List ℤ) (g : Fact) (x : Outcome) → ToTrace s l g d x e
       → ((n : ℕ) × (x ≡ Done n)) ↔ (IsDerivation s l g × (length (as_trace b flags l) ≤ 1000000) × (length (as_trace b flags l) ≤ length d))
   -- it is accepted for the same goal, and has as many steps
   pub to-trace-accepted : (l d e : List ℤ) (g : Fact) (n : ℕ) → ToTrace s l g d (Done n) e
       → (take n e ≡ as_trace b flags l) × IsTrace s (take n e) g × (length (trace_steps b flags (take n e)) ≡ length (derivation_steps b l))
   -- a derivation is written exactly when the trace is accepted, and the room holds the derivation
-  pub to-derivation-exact : (l d e : List ℤ) (g : Fact) (x : code.Answer) → ToDerivation s l g d x e
+  pub to-derivation-exact : (l d e : List ℤ) (g : Fact) (x : Outcome) → ToDerivation s l g d x e
       → ((n : ℕ) × (x ≡ Done n)) ↔ (IsTrace s l g × (length (as_derivation b flags g.rel l) ≤ length d))
   -- it is accepted for the same goal, and has no more steps
   pub to-derivation-accepted : (l d e : List ℤ) (g : Fact) (n : ℕ) → ToDerivation s l g d (Done n) e
       → (take n e ≡ as_derivation b flags g.rel l) × IsDerivation s (take n e) g × (length (derivation_steps b (take n e)) ≤ length (trace_steps b flags l))
   -- over and back is the same list, number for number, in every room d' that holds it
-  pub there_and_back : (l d e : List ℤ) (g : Fact) (n : ℕ) → ToTrace s l g d (Done n) e → (d' e' : List ℤ) (x : code.Answer) → length l ≤ length d'
+  pub there_and_back : (l d e : List ℤ) (g : Fact) (n : ℕ) → ToTrace s l g d (Done n) e → (d' e' : List ℤ) (x : Outcome) → length l ≤ length d'
       → ToDerivation s (take n e) g d' x e' → (x ≡ Done (length l)) × (take (length l) e' ≡ l)
   -- some list is accepted as a trace exactly when one is accepted as a derivation whose trace a million numbers hold
   pub either_way : (g : Fact) → ((l : List ℤ) × IsTrace s l g) ↔ ((l : List ℤ) × IsDerivation s l g × (length (as_trace b flags l) ≤ 1000000))

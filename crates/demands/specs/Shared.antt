@@ -3,8 +3,7 @@ use Rattle.std.specs.Prelude.{ℕ, zero, suc, ◌≤◌, ◌≡◌, refl, Bool, 
 use Rattle.std.proofs.Common.{arith, ◌∙◌, inl, inr, leb-true, leb-false}
 use Rattle.std.proofs.Math.Path.{sym, ap}
 use Rattle.meaning.specs.Book.{Book}
-use Rattle.reply.specs.declared.Answer as code
-use Rattle.reply.specs.Answer.{Answer, done, refused, number, place, says, told, says-told, Answers, answers_one}
+use Rattle.reply.specs.Answer.{Answer, done, refused, number, place, says, told, says-told, Answers, answers_one, Outcome}
 use Rattle.reply.specs.Among.{has, has-before, has-behind, Among, refused-not}
 use Rattle.reply.specs.Room.{Due, kept, written, Leaves, leaves-one, Fair, Front, written-wrote}
 use Rattle.reply.proofs.Room.{written-needs}
@@ -101,7 +100,7 @@ module _ {R O : Type 0} (Keeps : List ℕ → R → Type 0) (answer : R → Answ
   }
 
 -- number and place as the function for C has them
-pub tells-pair : {a : Answer} {o : ℕ × ℕ} (x : code.Answer) → Tells a o.0 o.1 → says x ≡ a → o ≡ pair (says x)
+pub tells-pair : {a : Answer} {o : ℕ × ℕ} (x : Outcome) → Tells a o.0 o.1 → says x ≡ a → o ≡ pair (says x)
 tells-pair {a} {o} x u e = λ j. ((u.number ∙ sym (ap number e)) j, (u.place ∙ sym (ap place e)) j)
 
 pub pair-tells : (a : Answer) → Tells a (number a) (place a)
@@ -134,7 +133,7 @@ module _ {A : Type 0} (g : List A → Book → Due A) (ns : List ℕ) (s : List 
     fair-owed : (d : List A) → Fair d (owed d)
     fair-owed d = on-fair s d (g d) (fair d)
 
-    said-owed : (d : List A) (x : code.Answer) → says x ≡ (owed d).answer → Numbered ns (says x)
+    said-owed : (d : List A) (x : Outcome) → says x ≡ (owed d).answer → Numbered ns (says x)
     said-owed d x e = rw e (on-numbered ns s (kept d) (g d) (λ y. y.answer) none (λ n p. refl) (goes d))
 
     pub filling-replies : Replies (filling (λ s d. on_book s (kept d) (g d)) ns) s

@@ -5,13 +5,13 @@ use mathlib.Core.List.{List, [], ◌∷◌, flat_map}
 use Rattle.whole.specs.Bytes.{u16_at, u32_at, i16_at, i32_at}
 use Rattle.meaning.specs.Constraint.{plus, is0, leaves, holds}
 use Rattle.meaning.specs.Book.{place_window, variable_window, head, body}
-use Rattle.cursor.specs.Steps.{pick, kinds, value_then, byte_then, number_then, step_then, node_then, byte_at, below_at, relation_at, variable_at, skip_at, number_at, kind_at, sum_at, remains_at, node_at}
+use Rattle.cursor.specs.Steps.{pick, kinds, value_then, byte_at, below_at, relation_at, variable_at, skip_at, number_at, kind_at, sum_at, remains_at, node_at}
 use Rattle.cursor.specs.Walk.{follow, constraint_at}
-use Rattle.cursor.specs.Clause.{arguments_at, fact_at, body_at, clause_then, parts_at, clause_at}
-use Rattle.cursor.specs.Tree.{coefficients_at, sum_of, then, grow, tree_at}
+use Rattle.cursor.specs.Clause.{arguments_at, fact_at, body_at, parts_at, clause_at}
+use Rattle.cursor.specs.Tree.{coefficients_at, sum_of, grow, tree_at}
 use Rattle.cursor.specs.Meaning.{atom_in, body_in, tree_of, tree_in, clause_in, clause_or}
 use Rattle.book.specs.Example.{book_b}
-use Rattle.book.specs.Read.{sized, headed, trailer, reading_then, top_arity, arity_at, arities_at, record_at, clauses_at, read, entry_at}
+use Rattle.book.specs.Read.{sized, headed, trailer, top_arity, arity_at, arities_at, record_at, clauses_at, read, entry_at}
 use Rattle.book.specs.Meaning.{up_to, book_in}
 use Rattle.book.specs.Meaning as held
 use Rattle.book.specs.Answer as books
@@ -35,6 +35,7 @@ use Rattle.models.specs.Assignments.{natural, width, up_from, assignments, count
 use Rattle.models.specs.Walk as walks
 use Rattle.models.specs.Walk.{tries_from, walk, total, position, satisfies, met, breaks, find}
 use Rattle.models.specs.Answer.{outcome, weighed, judged, examine, model_answer}
+use Rattle.reply.specs.Then.{go_on}
 
 -- ---- the words of the table
 
@@ -108,5 +109,5 @@ pub table :
     -- Remainder with d = 3, r = 2: true of 5, false of −1.
     × (remainder (pos 5) ≡ true)
     × (remainder (negsuc 0) ≡ false)
-unfolding flat_map u16_at u32_at i16_at i32_at plus is0 leaves holds place_window variable_window head body pick kinds value_then byte_then number_then step_then node_then byte_at below_at relation_at variable_at skip_at number_at kind_at sum_at remains_at node_at follow constraint_at arguments_at fact_at body_at clause_then parts_at clause_at coefficients_at sum_of then grow tree_at atom_in body_in tree_of tree_in clause_in clause_or sized headed trailer reading_then top_arity arity_at arities_at record_at clauses_at read entry_at up_to book_in held.clause_number books.answer books.told need and_then eq_z eq_vals same inside all_in first_out first_diff clause_number judge_clause judge judge_enabled walkers.walk judge_step check judge_goal judge_length check_derivation flat sum cut all_rows first_out_rows state_numbers size move_numbers trace_numbers has meets judge_move first_of judge_first check_walk check_trace derivation_steps as_trace written to_trace after on_book derivations.answer traces.answer models.parts_at number_in in_model rule_then model_in natural width up_from assignments count rank tries_from walk walks.sum total position satisfies met breaks find outcome weighed judged examine model_answer
+unfolding flat_map u16_at u32_at i16_at i32_at plus is0 leaves holds place_window variable_window head body pick kinds value_then go_on byte_at below_at relation_at variable_at skip_at number_at kind_at sum_at remains_at node_at follow constraint_at arguments_at fact_at body_at parts_at clause_at coefficients_at sum_of then grow tree_at atom_in body_in tree_of tree_in clause_in clause_or sized headed trailer top_arity arity_at arities_at record_at clauses_at read entry_at up_to book_in held.clause_number books.answer books.told need and_then eq_z eq_vals same inside all_in first_out first_diff clause_number judge_clause judge judge_enabled walkers.walk judge_step check judge_goal judge_length check_derivation flat sum cut all_rows first_out_rows state_numbers size move_numbers trace_numbers has meets judge_move first_of judge_first check_walk check_trace derivation_steps as_trace written to_trace after on_book derivations.answer traces.answer models.parts_at number_in in_model rule_then model_in natural width up_from assignments count rank tries_from walk walks.sum total position satisfies met breaks find outcome weighed judged examine model_answer
 table = (refl, refl, refl, refl, refl, refl, refl, refl, refl, refl, refl, refl, refl, refl, refl, refl, refl, refl, refl)

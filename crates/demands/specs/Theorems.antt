@@ -1,5 +1,5 @@
 -- The demands hold: demand-1, demand-1-in-c, demand-2 and demand-3. Their proofs are cited from the crates that the calls stand in.
-use Rattle.std.specs.Prelude.{ℕ, ◌<◌, ◌≡◌, refl, ◌↔◌, ◌⊎◌, false, length, take, ℤ}
+use Rattle.std.specs.Prelude.{ℕ, ◌<◌, ◌≡◌, refl, ◌↔◌, ◌⊎◌, false, length, take, ℤ, Ok}
 use Rattle.std.proofs.Math.Path.{sym, ap}
 use Rattle.std.proofs.Common.{subst, ◌∙◌, ⊎_elim}
 use mathlib.Core.List.{List, [], ◌∷◌}
@@ -19,11 +19,9 @@ use Rattle.meaning.specs.Main as main
 use Rattle.meaning.specs.Stated as stated
 use Rattle.meaning.specs.Stated.{StepsAlong}
 use Rattle.book.specs.declared.Header.{Header}
-use Rattle.book.specs.declared.Reading.{Reading}
-use Rattle.book.specs.declared.Reading.TheVariants.{Good}
 use Rattle.book.specs.Joined as joined
 use Rattle.book.specs.Answer as books
-use Rattle.book.specs.Read.{read, constraint_of}
+use Rattle.book.specs.Read.{read, constraint_of, Reading}
 use Rattle.book.specs.Lent.{Lent, handed, handed-bytes}
 use Rattle.book.specs.OnBook.{on_book, refused_by, reading, on-refused, on-accepted, on_both, reading-says}
 use Rattle.book.specs.Span.{span_of}
@@ -93,7 +91,7 @@ the-book : (s : List ℕ) (b c : Book) → Holds s b → Holds s c → c ≡ b
 the-book s b c p q = cc
 
 -- a book is read exactly when the bytes hold one
-read_held : (s : List ℕ) (x : Reading) → ReadBook s x → ((h : Header) × (x ≡ Good h)) ↔ ((b : Book) × Holds s b)
+read_held : (s : List ℕ) (x : Reading) → ReadBook s x → ((h : Header) × (x ≡ Ok h)) ↔ ((b : Book) × Holds s b)
 unfolding books.answer books.told
 read_held s x w = (
   λ a. (_, ap (books.told s) (sym w.is ∙ a.1)),

@@ -1,13 +1,11 @@
 -- The check accepts exactly the derivations of the goal in the book that the bytes hold.
-use Rattle.std.specs.Prelude.{ℕ, ◌≡◌, ◌↔◌, List, ℤ}
+use Rattle.std.specs.Prelude.{ℕ, ◌≡◌, ◌↔◌, List, ℤ, Ok}
 use Rattle.std.proofs.Common.{sym, ◌∙◌}
 use Rattle.meaning.specs.Book.{Book}
-use Rattle.reply.specs.Answer.{says-done, Answers}
+use Rattle.reply.specs.Answer.{says-done, Answers, Outcome}
 use Rattle.lists.specs.Derivation.{check_derivation}
 use Rattle.lists.specs.Exact.{Derivation, check_derivation-exact}
 use Rattle.book.specs.Answer as books
-use Rattle.reply.specs.declared.Answer.{Answer}
-use Rattle.reply.specs.declared.Answer.TheVariants.{Done}
 use Rattle.book.specs.OnBook.{on-ok}
 use Rattle.derivation.specs.Answer.{answer}
 
@@ -18,7 +16,7 @@ pub record Derived (s : List ℕ) (l : List ℤ) (r : ℕ) (vals : List ℤ) : T
   pub derivation : Derivation book r vals l
 
 -- of the reply x that keeps the check's promise
-pub exact : (s : List ℕ) (l : List ℤ) (r : ℕ) (vals : List ℤ) (x : Answer) → Answers (answer s l r vals) x → (x ≡ Done 0) ↔ Derived s l r vals
+pub exact : (s : List ℕ) (l : List ℤ) (r : ℕ) (vals : List ℤ) (x : Outcome) → Answers (answer s l r vals) x → (x ≡ Ok 0) ↔ Derived s l r vals
 unfolding answer
 exact s l r vals x p =
     let said = says-done x 0 in

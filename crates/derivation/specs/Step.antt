@@ -1,14 +1,22 @@
 -- What the derivation check remembers between two steps.
-use Rattle.std.specs.Prelude.{ℕ, ◌+◌, ◌≤◌, List, length, drop, ltb, ℤ}
+use Rattle.std.specs.Prelude.{ℕ, ◌+◌, ◌<◌, ◌≤◌, List, length, drop, ℤ}
+use Rattle.std.specs.Prelude as code
 use Rattle.std.proofs.Math.Option.{Option, none, some}
+use Rattle.meaning.specs.Book as meanings
 use Rattle.meaning.specs.Book.{Book, Fact, head}
-use Rattle.cursor.specs.Steps.{pick}
 use Rattle.lists.specs.Instance.{clause_at, step_at}
+use Rattle.derivation.specs.declared.Step.{Step}
 
--- the head of the step by clause k whose values stand from place j on; none where there is no such clause
-unfoldable pub fact_after : Book → List ℤ → ℕ → ℕ → Option Fact
-fact_after b l k j = pick (ltb k (length b.clauses)) (some (head b (step_at b k (drop j l)))) none
+-- the meaning's step
+abbrev pub step_of : Book → List ℤ → Step → meanings.Step
+step_of b l x = step_at b x.clause (drop x.since l)
 
--- its values stand there in full
-pub record Stood (b : Book) (l : List ℤ) (k j : ℕ) : Type 0 where
-  pub room : j + (clause_at b k).vars ≤ length l
+-- the head of the step before, if there is one
+unfoldable pub fact_after : Book → List ℤ → code.Option Step → Option Fact
+fact_after b l code.None = none
+fact_after b l (code.Some x) = some (head b (step_of b l x))
+
+-- it is by a clause of the book, and its values stand there in full
+pub record Stands (b : Book) (l : List ℤ) (x : Step) : Type 0 where
+  pub below : x.clause < length b.clauses
+  pub room : x.since + (clause_at b x.clause).vars ≤ length l

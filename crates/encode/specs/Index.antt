@@ -1,7 +1,7 @@
 -- The arities, and the records with their index, on what stands.
 use Prim.Native.Nat.{ℕ, suc, ◌+◌, ◌-◌, ◌*◌, ◌≤◌}
 use native.Mathlib.Omega.{arith}
-use Rattle.std.specs.Prelude.{◌≡◌, Bool, take}
+use Rattle.std.specs.Prelude.{◌≡◌, Bool, take, Ok}
 use Rattle.std.proofs.Math.Path.{refl, sym, ap}
 use Rattle.std.proofs.Common.{◌∙◌}
 use Rattle.std.proofs.Math.Bool.{true, false}
@@ -13,9 +13,8 @@ use Rattle.whole.specs.Bytes.{u16_at, u16_bytes}
 use Rattle.meaning.specs.Book as meant
 use Rattle.meaning.specs.Limits.{Each, nodes, ClauseLimits}
 use Rattle.cursor.specs.declared.Cursor.{Cursor}
-use Rattle.cursor.specs.declared.Step.TheVariants.{Moved}
-use Rattle.cursor.specs.Steps.{pick, value_then, byte_then, step_then}
-use Rattle.cursor.specs.Clause.{clause_then, clause_at}
+use Rattle.cursor.specs.Steps.{pick, value_then}
+use Rattle.cursor.specs.Clause.{clause_at}
 use Rattle.cursor.specs.Meaning.{clause_or}
 use Rattle.book.specs.Read.{top_arity, arity_at, arities_at, record_at, clauses_at}
 use Rattle.book.specs.Meaning.{up_to}
@@ -24,6 +23,7 @@ use Rattle.encode.specs.Stands.{Stands, stands-split}
 use Rattle.encode.specs.Digits.{u16-length, u16-read}
 use Rattle.encode.specs.Reads.{at, byte-read}
 use Rattle.encode.specs.Records.{Parts, parts-stand, clause-read, clause-is}
+use Rattle.reply.specs.Then.{go_on}
 
 -- ---- arities
 
@@ -36,8 +36,8 @@ module _ (s : List ℕ) (q : ℕ) (nullary : get_or s q 0 ≡ 0) where
       go true e = let z : a ≡ 0 = sym h ∙ ap (λ (j : ℕ). get_or s j 0) (eqb-true i q e) ∙ nullary in omega arith
       go false e = k
 
-  pub arities-read : (i l : ℕ) (ns : List ℕ) → Each (λ (n : ℕ). n ≤ 8) ns → Stands s i ns → arities_at (length ns) s q (at i l) ≡ Moved (at (i + length ns) l)
-  unfolding Stands arities_at arity_at byte_then step_then value_then pick
+  pub arities-read : (i l : ℕ) (ns : List ℕ) → Each (λ (n : ℕ). n ≤ 8) ns → Stands s i ns → arities_at (length ns) s q (at i l) ≡ Ok (at (i + length ns) l)
+  unfolding Stands arities_at arity_at go_on value_then pick
   arities-read i l [] f h = let e : i + 0 ≡ i = omega arith in rw e
   arities-read i l (a ∷ ns) f h =
       let e : i + suc (length ns) ≡ i + 1 + length ns = omega arith in
@@ -62,8 +62,8 @@ rows-stand front s p q (c ∷ cs) h i =
 
 module _ (s arities : List ℕ) (start : ℕ) (few : length arities ≤ 16) (front : Stands (take start s) 0 arities) where
   pub records-read : (p q l : ℕ) (cs : List meant.Clause) → Each (ClauseLimits arities) cs → Rows (take start s) s p q cs →
-      p + length (spell clause_bytes cs) ≡ start → (c : Cursor) × (clauses_at (length cs) s start (length arities) q (at p l) ≡ Moved c)
-  unfolding spell clauses_at record_at pick clause_then step_then
+      p + length (spell clause_bytes cs) ≡ start → (c : Cursor) × (clauses_at (length cs) s start (length arities) q (at p l) ≡ Ok c)
+  unfolding spell clauses_at record_at pick go_on
   records-read p q l [] lim h e = (at p l, rw (eq-eqb p start (omega arith)))
   records-read p q l (c ∷ cs) lim h e =
       let whole = length-append (clause_bytes c) (spell clause_bytes cs) in

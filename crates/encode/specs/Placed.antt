@@ -10,9 +10,9 @@ use Rattle.meaning.specs.Book.{Clause, Book, none_such}
 use Rattle.meaning.specs.Limits.{Limits}
 use Rattle.meaning.specs.Wf.{each_at}
 use Rattle.cursor.specs.Steps.{pick, value_then}
-use Rattle.cursor.specs.Clause.{clause_then}
+
 use Rattle.book.specs.declared.Span.{Span}
-use Rattle.book.specs.Read.{reading_then, entry_at}
+use Rattle.book.specs.Read.{entry_at}
 use Rattle.book.specs.Answer.{answer, accepted}
 use Rattle.book.specs.Span.{span_at, span_of}
 use Rattle.book.specs.Lent.{Lent, handed, handed-bytes}
@@ -23,6 +23,7 @@ use Rattle.encode.specs.Index.{Rows}
 use Rattle.encode.specs.RoundTrip.{header_of, holds, front, rows, read-holds}
 use Rattle.encode.specs.Exact.{accepted-is-written}
 use Rattle.encode.specs.Part.{part-written}
+use Rattle.reply.specs.Then.{go_on}
 
 -- ---- the writing around a constraint
 
@@ -97,7 +98,7 @@ module _ (b : Book) (lim : Limits b) (small : length (encode b) ≤ 60000) (k : 
   standing = record { start = length (written_before b k); end = length (written_before b k) + length (constraint_bytes clause.rule) }
 
   pub span-written : span_of (encode b) k ≡ standing
-  unfolding span_of span_at reading_then pick value_then clause_then entry_at header_of lay_of
+  unfolding span_of span_at go_on pick value_then entry_at header_of lay_of
   span-written =
       let s = encode b in
       let p : ℕ = length b.arities + length (spell clause_bytes (take k b.clauses)) in

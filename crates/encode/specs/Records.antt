@@ -2,27 +2,25 @@
 use Prim.Native.Nat.{ℕ, suc, ◌+◌, ◌-◌, ◌≤◌, ◌<◌}
 use Rattle.std.proofs.Common.{zero-add, sym, ◌∙◌, length-append}
 use native.Mathlib.Omega.{arith}
-use Rattle.std.specs.Prelude.{◌≡◌, List, [], ◌∷◌, ◌++◌, get_or}
+use Rattle.std.specs.Prelude.{◌≡◌, List, [], ◌∷◌, ◌++◌, get_or, Ok, Err}
 use Rattle.std.proofs.Math.Path.{refl}
 use Rattle.std.proofs.Math.Option.{Option, none, some}
 use Rattle.std.proofs.Math.ListN.{length}
 use borrow.Author.Tests.{ne_eqb}
 use Rattle.meaning.specs.Book.{Atom, Clause}
 use Rattle.meaning.specs.Limits.{Each, nodes, AtomLimits, BodyLimits, ClauseLimits}
-use Rattle.cursor.specs.declared.Byte.TheVariants as bytes
-use Rattle.cursor.specs.declared.Step.TheVariants.{Moved}
 use Rattle.cursor.specs.declared.Clause as laid
-use Rattle.cursor.specs.declared.ClauseStep.TheVariants as clauses
-use Rattle.cursor.specs.Steps.{pick, byte_then, step_then, relation_at, variable_at}
-use Rattle.cursor.specs.Clause.{arguments_at, fact_at, body_at, clause_then, parts_at, clause_at}
+use Rattle.cursor.specs.Steps.{pick, relation_at, variable_at}
+use Rattle.cursor.specs.Clause.{arguments_at, fact_at, body_at, parts_at, clause_at}
 use Rattle.cursor.specs.Meaning.{atom_in, body_in, tree_of, tree_in, clause_in}
 use Rattle.encode.specs.Encode.{atom_bytes, body_bytes, constraint_bytes, clause_bytes}
 use Rattle.encode.specs.Stands.{Stands, stands-split, stands-is, stands-get}
 use Rattle.encode.specs.Reads.{at, byte-read, below-read, tree-got, constraint-read}
+use Rattle.reply.specs.Then.{go_on}
 
 arguments-read : (s : List ℕ) (v p l : ℕ) (xs : List ℕ) → Each (λ (i : ℕ). i < v) xs → Stands s p xs →
-    arguments_at (length xs) s v (at p l) ≡ Moved (at (p + length xs) l)
-unfolding Stands arguments_at variable_at byte_then
+    arguments_at (length xs) s v (at p l) ≡ Ok (at (p + length xs) l)
+unfolding Stands arguments_at variable_at go_on
 arguments-read s v p l [] f h = let e : p + 0 ≡ p = omega arith in rw e
 arguments-read s v p l (x ∷ xs) f h =
     let e : p + suc (length xs) ≡ p + 1 + length xs = omega arith in
@@ -39,15 +37,15 @@ module _ (s arities : List ℕ) (few : length arities ≤ 16) (front : Stands s 
   arity-is v a lim = rw zero-add at (stands-get s 0 arities a.rel front lim.there) ∙ sym lim.full
 
   fact-read : (v p l : ℕ) (a : Atom) → AtomLimits arities v a → Stands s p (atom_bytes a) →
-      fact_at s (length arities) v (at p l) ≡ bytes.Got a.rel (at (p + length (atom_bytes a)) l)
-  unfolding Stands atom_bytes fact_at relation_at byte_then step_then
+      fact_at s (length arities) v (at p l) ≡ Ok (a.rel, at (p + length (atom_bytes a)) l)
+  unfolding Stands atom_bytes fact_at relation_at go_on
   fact-read v p l a lim h =
       let e : p + suc (length a.args) ≡ p + 1 + length a.args = omega arith in
       rw (below-read s 5 (length arities) p l h.0 h.1 lim.there, arity-is v a lim, arguments-read s v (p + 1) l a.args lim.known h.2, e)
 
   body-read : (v p l : ℕ) (o : Option Atom) → BodyLimits arities v o → Stands s p (body_bytes o) →
-      body_at s (length arities) v (at p l) ≡ bytes.Got (body_byte o) (at (p + length (body_bytes o)) l)
-  unfolding Stands body_bytes body_byte atom_bytes body_at byte_then pick
+      body_at s (length arities) v (at p l) ≡ Ok (body_byte o, at (p + length (body_bytes o)) l)
+  unfolding Stands body_bytes body_byte atom_bytes body_at go_on pick
   body-read v p l none lim h = rw (byte-read s p l h.0 h.1)
   body-read v p l (some a) lim h = rw (byte-read s p l h.0 h.1, ne_eqb a.rel 255 (λ e. omega (arith, lim.there))) (fact-read v p l a lim h)
 
@@ -104,8 +102,8 @@ parts-stand s p c h =
     }
 
 module _ (s arities : List ℕ) (few : length arities ≤ 16) (front : Stands s 0 arities) (p : ℕ) (c : Clause) (lim : ClauseLimits arities c) (h : Parts s p c) where
-  parts-read : (l : ℕ) → parts_at s (length arities) (at p l) ≡ clauses.Got (lay_of p c) (at (rule_start p c) l)
-  unfolding parts_at variable_at byte_then lay_of head_start rule_start
+  parts-read : (l : ℕ) → parts_at s (length arities) (at p l) ≡ Ok (lay_of p c, at (rule_start p c) l)
+  unfolding parts_at variable_at go_on lay_of head_start rule_start
   parts-read l = rw (
     below-read s 6 17 p l h.room h.vars (omega (arith, lim.few)),
     body-read s arities few front c.vars (p + 1) l c.body lim.body h.body,
@@ -115,8 +113,8 @@ module _ (s arities : List ℕ) (few : length arities ≤ 16) (front : Stands s 
   left_is : 64 ≡ nodes c.rule + (64 - nodes c.rule)
   left_is = omega (arith, lim.rule.few)
 
-  pub clause-read : (l : ℕ) → clause_at s (length arities) (at p l) ≡ clauses.Got (lay_of p c) (at (p + length (clause_bytes c)) (64 - nodes c.rule))
-  unfolding clause_at clause_then step_then lay_of
+  pub clause-read : (l : ℕ) → clause_at s (length arities) (at p l) ≡ Ok (lay_of p c, at (p + length (clause_bytes c)) (64 - nodes c.rule))
+  unfolding clause_at go_on lay_of
   clause-read l = rw (
     parts-read l,
     constraint-read s c.vars c.rule 16 lim.rule.shallow lim.rule.numbers (rule_start p c) 64 (64 - nodes c.rule) left_is h.rule,

@@ -1,5 +1,5 @@
 -- Reading an encoded book within the limits gives that book.
-use Rattle.std.specs.Prelude.{ℕ, suc, ◌+◌, ◌-◌, ◌*◌, ◌≤◌, ◌<◌, ◌≡◌, refl, false, List, [], ◌∷◌, ◌++◌, take, ℤ, pos, negsuc, ◌≤ℤ◌}
+use Rattle.std.specs.Prelude.{ℕ, suc, ◌+◌, ◌-◌, ◌*◌, ◌≤◌, ◌<◌, ◌≡◌, refl, false, List, [], ◌∷◌, ◌++◌, take, ℤ, pos, negsuc, ◌≤ℤ◌, Ok}
 use Rattle.std.proofs.Math.Nat.{zero-add}
 use Rattle.std.proofs.Common.{arith, ap, ◌∙◌, length-append, leb→le}
 use Rattle.std.proofs.Math.ListN.{length, get_or}
@@ -8,10 +8,9 @@ use borrow.Author.Tests.{lt-ltb, le-ltb, eq-eqb}
 use Rattle.whole.specs.Bytes.{u16_at, i32_at, u16_bytes, i32_bytes}
 use Rattle.meaning.specs.Book as meant
 use Rattle.meaning.specs.Limits.{Limits}
-use Rattle.cursor.specs.Steps.{pick, value_then, step_then}
+use Rattle.cursor.specs.Steps.{pick, value_then}
 use Rattle.book.specs.declared.Header.{Header}
-use Rattle.book.specs.declared.Reading.TheVariants.{Good}
-use Rattle.book.specs.Read.{sized, headed, trailer, reading_then, read, entry_at}
+use Rattle.book.specs.Read.{sized, headed, trailer, read, entry_at}
 use Rattle.book.specs.Meaning.{clause_number, book_in}
 use Rattle.book.specs.Answer.{accepted, told, answer}
 use Rattle.encode.specs.Encode.{spell, clause_bytes, starts, index_start, trailer_bytes, encode}
@@ -19,6 +18,7 @@ use Rattle.encode.specs.Stands.{Stands, stands_at, stands-split, stands-front, s
 use Rattle.encode.specs.Digits.{u16-length, i32-length, u16-read, i32-read}
 use Rattle.encode.specs.Reads.{spell-length}
 use Rattle.encode.specs.Index.{arities-read, Rows, rows-stand, records-read, records-are}
+use Rattle.reply.specs.Then.{go_on}
 
 -- ---- the trailer
 
@@ -117,7 +117,7 @@ fields s t b lim h =
 -- ---- the book
 
 module _ (s : List ℕ) (b : meant.Book) (lim : Limits b) (small : length s ≤ 60000) (h : Holds s b) where
-  trailer-read : trailer s ≡ Good (header_of b)
+  trailer-read : trailer s ≡ Ok (header_of b)
   unfolding trailer headed sized pick value_then header_of
   trailer-read =
       let f : Trailer s (trailer_start b) b = fields s (trailer_start b) b lim h.trailer in
@@ -151,8 +151,8 @@ module _ (s : List ℕ) (b : meant.Book) (lim : Limits b) (small : length s ≤ 
       ((stands-front s (index_start b) (length b.arities) (spell clause_bytes b.clauses) (omega (arith, h.end))).1 h.records)
       h.index
 
-  pub read-holds : read s ≡ Good (header_of b)
-  unfolding read reading_then step_then header_of
+  pub read-holds : read s ≡ Ok (header_of b)
+  unfolding read go_on header_of
   read-holds =
       let q : get_or (take (index_start b) s) b.query 0 ≡ 0 =
       rw zero-add at (stands-get (take (index_start b) s) 0 b.arities b.query front lim.query) ∙ lim.nullary in
@@ -165,7 +165,7 @@ module _ (s : List ℕ) (b : meant.Book) (lim : Limits b) (small : length s ≤ 
       let r = records-are s b.arities (index_start b) lim.few front (length b.arities) (index_start b) b.clauses (clause_number s (header_of b)) lim.clauses rows (λ k. refl) in
       rw (stands-is s 0 b.arities h.arities, r)
 
-pub read-encode : (b : meant.Book) → Limits b → length (encode b) ≤ 60000 → (read (encode b) ≡ Good (header_of b)) × (book_in (encode b) (header_of b) ≡ b)
+pub read-encode : (b : meant.Book) → Limits b → length (encode b) ≤ 60000 → (read (encode b) ≡ Ok (header_of b)) × (book_in (encode b) (header_of b) ≡ b)
 read-encode b lim small = (read-holds (encode b) b lim small (holds b), book-holds (encode b) b lim small (holds b))
 
 pub answer-encode : (b : meant.Book) → Limits b → length (encode b) ≤ 60000 → answer (encode b) ≡ accepted b

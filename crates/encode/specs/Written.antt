@@ -1,7 +1,7 @@
 -- What is accepted is the encoding of what was read, and keeps document 01's limits.
 use Prim.Native.Nat.{ℕ, ◌+◌, ◌-◌, ◌*◌, ◌≤◌, ◌<◌}
 use native.Mathlib.Omega.{arith}
-use Rattle.std.specs.Prelude.{◌≡◌, refl, List, Bool, true, false, take, drop, eqb}
+use Rattle.std.specs.Prelude.{◌≡◌, refl, List, Bool, true, false, take, drop, eqb, Ok}
 use Rattle.std.proofs.Math.Path.{sym}
 use Rattle.std.proofs.Common.{◌∙◌, length-take, take-take}
 use Rattle.std.proofs.Math.ListN.{length, get_or}
@@ -11,10 +11,9 @@ use Rattle.whole.specs.Bytes.{u16_at, i32_at, u16_bytes, i32_bytes}
 use Rattle.meaning.specs.Book.{Book, none_such}
 use Rattle.meaning.specs.Limits.{Limits}
 use Rattle.cursor.specs.Steps.{pick, value_then}
-use Rattle.cursor.specs.Clause.{clause_then}
+
 use Rattle.book.specs.declared.Header.{Header}
-use Rattle.book.specs.declared.Reading.TheVariants.{Good}
-use Rattle.book.specs.Read.{reading_then, top_arity, read, entry_at, part_at, constraint_of}
+use Rattle.book.specs.Read.{top_arity, read, entry_at, part_at, constraint_of}
 use Rattle.book.specs.Meaning.{clause_number, book_in}
 use Rattle.book.specs.Joined.{passed, record-read, held, count-is}
 use Rattle.book.specs.Trailer.{read-trailed}
@@ -25,6 +24,7 @@ use Rattle.encode.specs.WrittenTree.{Spans, spans-join, u16-spans, i32-spans, i3
 use Rattle.encode.specs.WrittenClause.{part-spans, part-each, clause-written}
 use Rattle.book.specs.Arities.{AreArities, arities-read}
 use Rattle.encode.specs.WrittenRecords.{bytes-front, AreWritten, clauses-written}
+use Rattle.reply.specs.Then.{go_on}
 
 top_small : (q i : ℕ) → top_arity q i ≤ 8
 unfolding top_arity pick
@@ -80,7 +80,7 @@ book-made s b start t a c i r =
     let w = spans-join b.arities _ a (spans-join (spell clause_bytes b.clauses) _ c (spans-join _ _ i r)) in
     sym (stands-whole s _ w.stands (omega (arith, w.past)))
 
-module _ (s : List ℕ) (h : Header) (good : read s ≡ Good h) where
+module _ (s : List ℕ) (h : Header) (good : read s ≡ Ok h) where
   -- where the index starts the trailer is still to come
   start-in : h.start ≤ length s
   start-in = let k = (read-trailed s h good).kept in omega arith
@@ -112,7 +112,7 @@ module _ (s : List ℕ) (h : Header) (good : read s ≡ Good h) where
       let z : 0 + h.relations ≡ h.relations = omega arith in
       rw (← relations-read) (rw z at (part-spans s 0 h.relations (omega (arith, start-in))))
 
-module _ (s : List ℕ) (h : Header) (bytes : Bytes s) (good : read s ≡ Good h) where
+module _ (s : List ℕ) (h : Header) (bytes : Bytes s) (good : read s ≡ Ok h) where
   clauses-are : AreWritten s bytes h.start h.relations h.count h.start (length (book_in s h).arities) (book_in s h).clauses
   unfolding book_in clause_number entry_at
   clauses-are =
@@ -171,7 +171,7 @@ module _ (s : List ℕ) (h : Header) (bytes : Bytes s) (good : read s ≡ Good h
   -- ---- the constraint that is handed out
 
   pub constraint-written : (k : ℕ) → k < h.count → constraint_of s k ≡ constraint_bytes (get_or (book_in s h).clauses k none_such).rule
-  unfolding constraint_of reading_then part_at pick clause_then value_then
+  unfolding constraint_of go_on part_at pick value_then
   constraint-written k below =
       let w = record-read s h good k below in
       let d = (read-trailed s h good).kept in

@@ -1,5 +1,5 @@
 -- A clause record that was read in a list of bytes stands there, written, and keeps the limits.
-use Rattle.std.specs.Prelude.{ℕ, suc, ◌+◌, ◌≤◌, ◌<◌, ◌≡◌, List, [], ◌∷◌, length, take, drop}
+use Rattle.std.specs.Prelude.{ℕ, suc, ◌+◌, ◌≤◌, ◌<◌, ◌≡◌, List, [], ◌∷◌, length, take, drop, Ok}
 use native.Mathlib.Omega.{arith}
 use Rattle.std.proofs.Math.Path.{refl, sym, ap}
 use Rattle.std.proofs.Common.{◌∙◌, inl, inr, length-drop, length-take-le, get_or-take, get_or-drop, eq-eqb, ne_eqb}
@@ -7,7 +7,6 @@ use Rattle.std.proofs.Math.ListN.{get_or}
 use Rattle.meaning.specs.Limits.{Each, AtomLimits, BodyLimits, ClauseLimits}
 use Rattle.cursor.specs.declared.Cursor.{Cursor}
 use Rattle.cursor.specs.declared.Clause.{Clause}
-use Rattle.cursor.specs.declared.ClauseStep.TheVariants.{Got}
 use Rattle.cursor.specs.Steps.{pick}
 use Rattle.cursor.specs.Clause.{clause_at}
 use Rattle.cursor.specs.Meaning.{atom_in, body_in, tree_of, tree_in, clause_in}
@@ -100,5 +99,5 @@ module _ (s : List ℕ) (bytes : Bytes s) (n : ℕ) (h : n ≤ length s) (c : Cu
         };
       }
 
-  pub clause-written : clause_at s n c ≡ Got l e → IsWritten s n c l e
+  pub clause-written : clause_at s n c ≡ Ok (l, e) → IsWritten s n c l e
   clause-written q = written (clause-read s n c q)

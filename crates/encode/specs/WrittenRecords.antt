@@ -1,7 +1,7 @@
 -- The arities, the records and the index that were read stand there, written.
 use Prim.Native.Nat.{ℕ, zero, suc, ◌+◌, ◌*◌, ◌≤◌}
 use native.Mathlib.Omega.{arith}
-use Rattle.std.specs.Prelude.{◌≡◌, List, [], ◌∷◌, take}
+use Rattle.std.specs.Prelude.{◌≡◌, List, [], ◌∷◌, take, Ok}
 use Rattle.std.proofs.Common.{◌∙◌, get_or-take, eqb-true}
 use Rattle.std.proofs.Math.Path.{ap}
 use Rattle.std.proofs.Math.ListN.{length, length-take}
@@ -10,18 +10,17 @@ use Rattle.whole.specs.Bytes.{u16_at, u16_bytes}
 use Rattle.meaning.specs.Book as meant
 use Rattle.meaning.specs.Limits.{Each, ClauseLimits}
 use Rattle.cursor.specs.declared.Cursor.{Cursor}
-use Rattle.cursor.specs.declared.Step.TheVariants.{Moved}
 use Rattle.cursor.specs.declared.Clause.{Clause}
-use Rattle.cursor.specs.declared.ClauseStep.TheVariants.{Got}
 use Rattle.cursor.specs.Clause.{clause_at}
 use Rattle.cursor.specs.Meaning.{clause_in, clause_or}
-use Rattle.cursor.specs.Inverse.{pick-then, step_went, clause-went, no_step}
+use Rattle.cursor.specs.Inverse.{pick-then}
 use Rattle.book.specs.Read.{record_at, clauses_at}
 use Rattle.book.specs.Meaning.{up_to}
 use Rattle.encode.specs.Encode.{spell, clause_bytes, starts}
 use Rattle.encode.specs.Stands.{Stands, Bytes}
 use Rattle.encode.specs.WrittenTree.{Spans, spans-join, u16-spans}
 use Rattle.encode.specs.WrittenClause.{clause-written}
+use Rattle.reply.specs.Then.{went, no_err}
 
 pub bytes-front : (s : List ℕ) (j : ℕ) → Bytes s → Bytes (take j s)
 bytes-front s j b = record {
@@ -31,14 +30,14 @@ bytes-front s j b = record {
 -- ---- the records, and the index of where they start
 
 module _ (s : List ℕ) (bytes : Bytes s) (start n : ℕ) where
-  record-went : (p : ℕ) (c : Cursor) {e : Cursor} {Q : Type 0} → record_at s start n p c ≡ Moved e →
-      (c.at ≡ u16_at s p → (l : Clause) → clause_at (take start s) n (record { at = c.at; left = 0 }) ≡ Got l e → Q) → Q
+  record-went : (p : ℕ) (c : Cursor) {e : Cursor} {Q : Type 0} → record_at s start n p c ≡ Ok e →
+      (c.at ≡ u16_at s p → (l : Clause) → clause_at (take start s) n (record { at = c.at; left = 0 }) ≡ Ok (l, e) → Q) → Q
   unfolding record_at
   record-went p c {e} q k =
-      pick-then _ _ _ (no_step _) q λ t q.
-      clause-went _ _ _ no_step q λ l d x y.
+      pick-then _ _ _ (no_err _) q λ t q.
+      went _ _ _ no_err q λ (l, d) x y.
       let same : d ≡ e = cc in
-      k (eqb-true _ _ t) l (x ∙ ap (Got l) same)
+      k (eqb-true _ _ t) l (x ∙ ap (λ (c : Cursor). Ok (l, c)) same)
 
   -- the clauses from q up to the index, and their k entries from p on
   pub record AreWritten (k p q : ℕ) (cs : List meant.Clause) : Type 0 where
@@ -67,12 +66,12 @@ module _ (s : List ℕ) (bytes : Bytes s) (start n : ℕ) where
 
   pub clauses-written : (k p : ℕ) (c : Cursor) {e : Cursor} (f : ℕ → meant.Clause) →
       ((i : ℕ) → f i ≡ clause_or (take start s) (clause_at (take start s) n (record { at = u16_at s (p + i * 2); left = 0 }))) →
-      n ≤ start → start ≤ length s → p + k * 2 ≤ length s → clauses_at k s start n p c ≡ Moved e → AreWritten k p c.at (up_to k f)
+      n ≤ start → start ≤ length s → p + k * 2 ≤ length s → clauses_at k s start n p c ≡ Ok e → AreWritten k p c.at (up_to k f)
   unfolding clauses_at up_to clause_or
   clauses-written zero p c f is m h room q =
-      pick-then _ _ _ (no_step _) q λ t _. no-clauses p c.at (eqb-true _ _ t) h (omega arith)
+      pick-then _ _ _ (no_err _) q λ t _. no-clauses p c.at (eqb-true _ _ t) h (omega arith)
   clauses-written (suc k) p c f is m h room q =
-      step_went _ _ _ no_step q λ e x y.
+      went _ _ _ no_err q λ e x y.
       record-went p c x λ t l w.
       let front : length (take start s) ≡ start = length-take-le start s h in
       let z : p + 0 * 2 ≡ p = omega arith in

@@ -1,7 +1,7 @@
 -- A constraint that was read in a list of bytes stands there, written, and keeps the limits.
 use Prim.Native.Nat.{ℕ, zero, suc, ◌+◌, ◌*◌, ◌≤◌, max}
 use native.Mathlib.Omega.{arith}
-use Rattle.std.specs.Prelude.{◌≡◌, length}
+use Rattle.std.specs.Prelude.{◌≡◌, length, Ok}
 use Rattle.std.proofs.Math.Path.{refl, sym, ap}
 use Rattle.std.proofs.Common.{◌∙◌, length-append}
 use mathlib.Core.List.{List, [], ◌∷◌, ◌++◌}
@@ -13,7 +13,7 @@ use Rattle.meaning.specs.Constraint.{Constraint}
 use Rattle.meaning.specs.Limits.{Each, nodes, depth, Numbers, SumLimits, Divides}
 use Rattle.cursor.specs.declared.Cursor.{Cursor}
 use Rattle.cursor.specs.declared.Remains.{Remains}
-use Rattle.cursor.specs.Tree.{got, coefficients_at, sum_of, tree_at}
+use Rattle.cursor.specs.Tree.{coefficients_at, sum_of, tree_at}
 use Rattle.cursor.specs.Inverse.{at_of, left-of, IsSkip, IsKind, IsRemains, Keeps, tree-by}
 use Rattle.encode.specs.Encode.{spell, sum_bytes, constraint_bytes}
 use Rattle.encode.specs.Stands.{Stands, Bytes, stands_at, stands-join}
@@ -162,5 +162,5 @@ module _ (s : List ℕ) (bytes : Bytes s) where
       remainders = remainder-leaf;
     }
 
-    pub tree-written : (d : ℕ) (c : Cursor) {t : Constraint} {e : Cursor} → tree_at s v d c ≡ got t e → ReadsTree d c t e
+    pub tree-written : (d : ℕ) (c : Cursor) {t : Constraint} {e : Cursor} → tree_at s v d c ≡ Ok (t, e) → ReadsTree d c t e
     tree-written d c q = tree-by s v ReadsTree keeps d c q

@@ -15,7 +15,6 @@ use Rattle.lists.specs.Convert.{as_trace}
 use Rattle.lists.specs.Places.{clause_here, step_here, after, start, start_first, start-next, numbers-here, trace_due, trace-due-all, trace-due-none}
 use Rattle.lists.proofs.Places.{trace-due-more}
 use Rattle.book.specs.declared.Header.{Header}
-use Rattle.book.specs.declared.Reading.TheVariants.{Good}
 use Rattle.book.specs.Read.{read}
 use Rattle.book.specs.Meaning.{book_in}
 use Rattle.table.specs.Table.{Tabled}
@@ -29,6 +28,7 @@ use Rattle.steps.specs.Put.{Put, put-length, put-join, put-none, put_as, put_the
 use Rattle.steps.specs.Walk.{Here, Walk}
 use Rattle.steps.proofs.Places.{here-at, here-below, here-row}
 use Rattle.forth.proofs.Laws.{state-low}
+use Rattle.std.specs.Prelude.{Ok}
 
 -- the first two of three parts
 two-parts : (a b c d : List ℤ) → (a ++ b) ++ c ≡ d → length a + length b ≤ length d
@@ -96,7 +96,7 @@ pub state-size : (b : Book) (fs : List Bool) (vs : List (List ℤ)) → length (
 unfolding size
 state-size b fs vs = state-many b.arities fs vs b
 
-pub first-state : (s : List ℕ) (h : Header) → read s ≡ Good h → state_of (book_in s h).arities (replicate 16 false) (low_rows (place_window (book_in s h)) (replicate 16 8)) ≡ first (book_in s h) flags
+pub first-state : (s : List ℕ) (h : Header) → read s ≡ Ok h → state_of (book_in s h).arities (replicate 16 false) (low_rows (place_window (book_in s h)) (replicate 16 8)) ≡ first (book_in s h) flags
 first-state s h good = state-low (book_in s h) (arities-few s h good) (arities-small s h good)
 
 -- a step's head is put in: its flag is set and its values stand in its row
@@ -160,7 +160,7 @@ module _ {s : List ℕ} {h : Header} {t : List (List ℕ)} (table : Tabled s h t
 
 -- ---- the first state, then the walk
 
-module _ (s : List ℕ) (h : Header) (l : List ℤ) (good : read s ≡ Good h) where
+module _ (s : List ℕ) (h : Header) (l : List ℤ) (good : read s ≡ Ok h) where
   first-length : length (state_numbers (book_in s h) flags (first (book_in s h) flags)) ≡ size (book_in s h) flags
   first-length = rw (first-state s h good) at (state-size (book_in s h) (replicate 16 false) (low_rows (place_window (book_in s h)) (replicate 16 8)))
 

@@ -21,14 +21,14 @@ use Rattle.lists.specs.Laws.{judge-exact}
 use Rattle.book.specs.declared.Header.{Header}
 use Rattle.book.specs.declared.Window as codes
 use Rattle.book.specs.Windows.{Windowed, window_of}
-use Rattle.book.specs.declared.Reading.TheVariants.{Good}
 use Rattle.book.specs.Read.{read}
 use Rattle.book.specs.Meaning.{book_in}
 use Rattle.book.specs.Joined.{count-is}
 use Rattle.cursor.specs.Meaning.{tree_in}
-use Rattle.cursor.specs.Sound.{IsTree}
-use Rattle.table.specs.Table.{Tabled}
+use Rattle.table.specs.declared.Row.{Row}
+use Rattle.table.specs.Table.{IsRow}
 use Rattle.instance.specs.Values.{number_or, number_in, Whole, values_at, Valued}
+use Rattle.std.specs.Prelude.{Ok}
 
 -- ---- two lists of values, compared from number j on
 
@@ -185,7 +185,7 @@ module _ (b : Book) (c : Clause) (more : ℕ) (l : List ℤ) (i : ℕ) where
 
 -- ---- the clause that a list's number names
 
-module _ (s : List ℕ) (h : Header) (good : read s ≡ Good h) (l : List ℤ) (i : ℕ) {k : ℕ} (q : k ≡ number_or h.count (get_or l i (pos 0))) where
+module _ (s : List ℕ) (h : Header) (good : read s ≡ Ok h) (l : List ℤ) (i : ℕ) {k : ℕ} (q : k ≡ number_or h.count (get_or l i (pos 0))) where
   pub number_is : number_in s h l i ≡ k
   unfolding clause_number number_or
   number_is = go (get_or l i (pos 0)) ∙ sym q
@@ -203,23 +203,23 @@ module _ (s : List ℕ) (h : Header) (good : read s ≡ Good h) (l : List ℤ) (
   unfolding judge need
   judge-some more a = rw (number_is, lt-ltb k (length (book_in s h).clauses) (omega (arith, count-is s h good)))
 
--- ---- judging, as the code does it: v is the clause's number of variables
+-- ---- judging, as the code does it by the clause's row
 
-module _ {s : List ℕ} {h : Header} {t : List (List ℕ)} (w : Tabled s h t) {k : ℕ} (below : k < h.count) (l : List ℤ) (i more : ℕ) {v : ℕ} (e : v ≡ get_or (get_or t k []) 0 0) (there : i < length l) where
+module _ {s : List ℕ} {h : Header} {k : ℕ} {row : Row} (w : IsRow s h k row) (l : List ℤ) (i more : ℕ) (there : i < length l) where
   abbrev the_clause : Clause
   the_clause = clause_at (book_in s h) k
 
   abbrev answer : ℕ
   answer = number (judge_clause (book_in s h) the_clause more (drop (i + 1) l) i)
 
+  abbrev v : ℕ
+  v = row.variables
+
   vars : the_clause.vars ≡ v
-  vars = (w.row k below).vars ∙ sym e
+  vars = w.vars
 
   left : length (drop (i + 1) l) ≡ length l - (i + 1)
   left = length-drop (i + 1) l
-
-  pub code-few : v ≤ 16
-  code-few = omega (arith, (w.row k below).few)
 
   pub code-short : length l - (i + 1) < v → 13 ≡ answer
   code-short a = sym (judged-short (book_in s h) the_clause more (drop (i + 1) l) i (omega (arith, vars, left)))
@@ -238,18 +238,15 @@ module _ {s : List ℕ} {h : Header} {t : List (List ℕ)} (w : Tabled s h t) {k
       pub code_out : out < i + 1 + v → 14 ≡ answer
       code_out d = sym (judged-out (book_in s h) the_clause more (drop (i + 1) l) i room at-vars (omega (arith, vars)))
 
-      module _ (d : i + 1 + v ≤ out) {p : ℕ} (f : p ≡ get_or (get_or t k []) 7 0) {r : Bool} (x : r ≡ holds (take v (drop (i + 1) l)) (tree_in s v p)) where
+      module _ (d : i + 1 + v ≤ out) {r : Bool} (x : r ≡ holds (take v (drop (i + 1) l)) (tree_in s v row.rule)) where
         at-rule : r ≡ holds (take the_clause.vars (drop (i + 1) l)) the_clause.rule
-        at-rule = x ∙ rw ((w.row k below).rule, (w.row k below).vars, ← e, ← f)
+        at-rule = x ∙ rw (w.rule, w.vars)
 
         pub code-false : r ≡ false → 15 ≡ answer
         code-false z = sym (judged-false (book_in s h) the_clause more (drop (i + 1) l) i room at-vars (omega (arith, vars)) at-rule z)
 
         pub code-true : r ≡ true → 0 ≡ answer
         code-true z = sym (judged-true (book_in s h) the_clause more (drop (i + 1) l) i room at-vars (omega (arith, vars)) at-rule z)
-
-  pub code-tree : {p : ℕ} → p ≡ get_or (get_or t k []) 7 0 → IsTree s v p
-  code-tree f = rw (e, f) (w.row k below).tree
 
 -- ---- where a refusal is
 
@@ -260,7 +257,7 @@ out-after i q true true t₃ t₄ t₅ e = (refl, refl)
 out-after i q true false t₃ t₄ t₅ e = absurd (let z : ⊥ = omega arith in z)
 out-after i q false t₂ t₃ t₄ t₅ e = absurd (let z : ⊥ = omega arith in z)
 
-pub out-whole : (s : List ℕ) (h : Header) (l : List ℤ) (i more : ℕ) (met : Bool) → read s ≡ Good h → i < length l
+pub out-whole : (s : List ℕ) (h : Header) (l : List ℤ) (i more : ℕ) (met : Bool) → read s ≡ Ok h → i < length l
     → number (judge_enabled (book_in s h) (number_in s h l i) more (drop (i + 1) l) i met) ≡ 14 → Whole s h l i
 unfolding judge_enabled judge judge_clause
 out-whole s h l i more met good there e =
@@ -270,19 +267,20 @@ out-whole s h l i more met good there e =
       room = omega (arith, leb-true ((clause_at (book_in s h) (number_in s h l i)).vars + more) (length (drop (i + 1) l)) q, length-drop (i + 1) l);
     }
 
-module _ {s : List ℕ} {h : Header} {t : List (List ℕ)} (w : Tabled s h t) (l : List ℤ) (i : ℕ) (x : Whole s h l i) {k : ℕ} (q : k ≡ number_or h.count (get_or l i (pos 0))) where
+module _ (s : List ℕ) (h : Header) (good : read s ≡ Ok h) (l : List ℤ) (i : ℕ) (x : Whole s h l i) {k : ℕ} (q : k ≡ number_or h.count (get_or l i (pos 0))) where
   same : number_in s h l i ≡ k
-  same = number_is s h w.good l i q
+  same = number_is s h good l i q
 
   pub whole_below : k < h.count
   whole_below = rw same at x.there
 
-  pub whole_room : {v : ℕ} → v ≡ get_or (get_or t k []) 0 0 → i + 1 + v ≤ length l
-  whole_room e = omega (arith, rw same at x.room, (w.row k whole_below).vars)
+  module _ {row : Row} (w : IsRow s h k row) where
+    pub whole_room : i + 1 + row.variables ≤ length l
+    whole_room = omega (arith, rw same at x.room, w.vars)
 
-  pub whole_out : {v out : ℕ} → v ≡ get_or (get_or t k []) 0 0 → out ≡ first_out (variable_window (book_in s h) (clause_at (book_in s h) k)) (i + 1) (take v (drop (i + 1) l))
-      → out ≡ outside (book_in s h) (number_in s h l i) (drop (i + 1) l) i
-  whole_out e f = f ∙ rw (same, (w.row k whole_below).vars, ← e)
+    pub whole_out : {out : ℕ} → out ≡ first_out (variable_window (book_in s h) (clause_at (book_in s h) k)) (i + 1) (take row.variables (drop (i + 1) l))
+        → out ≡ outside (book_in s h) (number_in s h l i) (drop (i + 1) l) i
+    whole_out f = f ∙ rw (same, w.vars)
 
 -- ---- a step that may be taken where its body is met, by the number of its instance's refusal
 
@@ -299,7 +297,7 @@ unfolding and_then
 number-stop (done m) y n = absurd (n refl)
 number-stop (refused m i) y n = refl
 
-module _ (s : List ℕ) (h : Header) (good : read s ≡ Good h) (l : List ℤ) (i more : ℕ) {n : ℕ} (e : n ≡ number (judge (book_in s h) (number_in s h l i) more (drop (i + 1) l) i)) where
+module _ (s : List ℕ) (h : Header) (good : read s ≡ Ok h) (l : List ℤ) (i more : ℕ) {n : ℕ} (e : n ≡ number (judge (book_in s h) (number_in s h l i) more (drop (i + 1) l) i)) where
   -- it is refused
   pub enabled-stop : (met : Bool) → (n ≡ 0 → ⊥) → n ≡ number (judge_enabled (book_in s h) (number_in s h l i) more (drop (i + 1) l) i met)
   unfolding judge_enabled

@@ -7,10 +7,12 @@ ghost use Rattle.reply.specs.Answer.{number};
 ghost use Rattle.lists.specs.Compare.{eq_z, eq_vals, inside, first_out};
 ghost use Rattle.lists.specs.Instance.{clause_number, clause_at, judge_clause, judge};
 ghost use Rattle.lists.specs.Enabled.{refusal_place};
-ghost use Rattle.book.specs.Meaning.{book_in};
-ghost use Rattle.table.specs.Table.{Tabled};
+ghost use Rattle.book.specs.Held.{meant};
 ghost use Rattle.book.specs.Windows.{window_of};
 ghost use Rattle.instance.specs.Values.{number_or, number_in, Whole, values_at, Valued};
+
+use book::{Book, Window};
+use table::Table;
 
 // ---- numbers of a list
 
@@ -24,12 +26,12 @@ pub fn number_at(list: &[i32], i: usize, n: usize) -> usize
 }
 
 // Whether the number at i lies in the window.
-pub fn inside_at(list: &[i32], i: usize, w: book::Window) -> bool
+pub fn inside_at(list: &[i32], i: usize, w: Window) -> bool
     requires { i < length list.now }
     ensures { result ≡ inside (window_of w) (get_or list.now i (pos 0)) }
 {
     let x = list[i];
-    if w.lo <= x { x <= w.hi } else { false }
+    w.lo <= x && x <= w.hi
 }
 
 // Whether two numbers of lists are the same.
@@ -63,16 +65,10 @@ pub fn same_values(
     requires { (Valued book.now (length list.now) p from n) × (Valued book.now (length list.now) q since n) }
     ensures { result ≡ eq_vals (values_at book.now list.now p from n) (values_at book.now list.now q since n) }
 {
-    let mut j = 0;
-    while j < n {
-        if same_at(
-            list,
-            spot(book, p + j, from),
-            list,
-            spot(book, q + j, since),
-        ) {
-            j += 1;
-        } else {
+    for j in 0..n {
+        let one = spot(book, p + j, from);
+        let other = spot(book, q + j, since);
+        if !same_at(list, one, list, other) {
             return false;
         }
     }
@@ -91,11 +87,8 @@ pub fn values_are(
     requires { (Valued book.now (length list.now) p from n) × (n ≤ length values.now) }
     ensures { result ≡ eq_vals (values_at book.now list.now p from n) (take n values.now) }
 {
-    let mut j = 0;
-    while j < n {
-        if same_at(list, spot(book, p + j, from), values, j) {
-            j += 1;
-        } else {
+    for j in 0..n {
+        if !same_at(list, spot(book, p + j, from), values, j) {
             return false;
         }
     }
@@ -105,57 +98,39 @@ pub fn values_are(
 // ---- judging
 
 // The place of the first of the v values from `from` on that lies outside the window of its variable of clause k, or the place after them.
-pub fn first_out(
-    book: &[u8],
-    h: book::Header,
-    k: usize,
-    list: &[i32],
-    from: usize,
-    v: usize,
-) -> usize
+pub fn first_out(book: &Book, k: usize, list: &[i32], from: usize, v: usize) -> usize
     requires { from + v ≤ length list.now }
-    ensures { result ≡ first_out (variable_window (book_in book.now h) (clause_at (book_in book.now h) k)) from (take v (drop from list.now)) }
+    ensures { result ≡ first_out (variable_window (meant book.now) (clause_at (meant book.now) k)) from (take v (drop from list.now)) }
 {
-    let mut j = 0;
-    while j < v {
-        if inside_at(list, from + j, book::variable_window(book, h, k, j)) {
-            j += 1;
-        } else {
+    for j in 0..v {
+        if !inside_at(list, from + j, book.variable_window(k, j)) {
             return from + j;
         }
     }
-    from + j
+    from + v
 }
 
 // 13 to 15: the number of the refusal of the instance of clause k that begins at i, after whose values `more` numbers follow; 0 where it is one.
-pub fn judged(
-    book: &[u8],
-    h: book::Header,
-    table: &[[u16; 8]; 64],
-    k: usize,
-    list: &[i32],
-    i: usize,
-    more: usize,
-) -> usize
-    requires tabled { Tabled book.now h table.now }
-    requires k_lt_count { (k < h.count) × (i < length list.now) }
-    ensures { result ≡ number (judge_clause (book_in book.now h) (clause_at (book_in book.now h) k) more (drop (i + 1) list.now) i) }
+pub fn judged(table: &Table, k: usize, list: &[i32], i: usize, more: usize) -> usize
+    requires { (k < table.now.book.header.count) × (i < length list.now) }
+    ensures { result ≡ number (judge_clause (meant table.now.book) (clause_at (meant table.now.book) k) more (drop (i + 1) list.now) i) }
 {
     let from = i + 1;
-    let v = table::cell(table, k, table::VARIABLES);
+    let row = table.row(k);
+    let v = row.variables as usize;
     if list.len() - from < v {
         return 13;
     }
     if list.len() - from - v < more {
         return 13;
     }
-    if first_out(book, h, k, list, from, v) < from + v {
+    if first_out(&table.book, k, list, from, v) < from + v {
         return 14;
     }
     if truth::truth(
-        book,
-        table::cell(table, k, table::RULE),
-        v as u8,
+        table.book.bytes,
+        row.rule as usize,
+        row.variables,
         list,
         from,
     ) {
@@ -166,49 +141,28 @@ pub fn judged(
 }
 
 // 12 to 15: the same of the step that begins at i.
-pub fn instance_at(
-    book: &[u8],
-    h: book::Header,
-    table: &[[u16; 8]; 64],
-    list: &[i32],
-    i: usize,
-    more: usize,
-) -> usize
-    requires tabled { Tabled book.now h table.now }
-    requires i_in_bounds { i < length list.now }
-    ensures { result ≡ number (judge (book_in book.now h) (number_in book.now h list.now i) more (drop (i + 1) list.now) i) }
+pub fn instance_at(table: &Table, list: &[i32], i: usize, more: usize) -> usize
+    requires { i < length list.now }
+    ensures { result ≡ number (judge (meant table.now.book) (number_in table.now.book.bytes.now table.now.book.header list.now i) more (drop (i + 1) list.now) i) }
 {
-    let k = number_at(list, i, h.count);
-    if h.count <= k {
+    let count = table.book.header.count;
+    let k = number_at(list, i, count);
+    if count <= k {
         return 12;
     }
-    judged(book, h, table, k, list, i, more)
+    judged(table, k, list, i, more)
 }
 
 // Where the refusal with this number of the step that begins at i is: 14 at the first value outside its window, any other where the step begins.
-pub fn refusal_place(
-    book: &[u8],
-    h: book::Header,
-    table: &[[u16; 8]; 64],
-    list: &[i32],
-    i: usize,
-    number: usize,
-) -> usize
-    requires tabled { Tabled book.now h table.now }
+pub fn refusal_place(table: &Table, list: &[i32], i: usize, number: usize) -> usize
     requires i_in_bounds { i < length list.now }
-    requires whole { number ≡ 14 → Whole book.now h list.now i }
-    ensures { result ≡ refusal_place (book_in book.now h) (number_in book.now h list.now i) (drop (i + 1) list.now) i number }
+    requires whole { number ≡ 14 → Whole table.now.book.bytes.now table.now.book.header list.now i }
+    ensures { result ≡ refusal_place (meant table.now.book) (number_in table.now.book.bytes.now table.now.book.header list.now i) (drop (i + 1) list.now) i number }
 {
     if number == 14 {
-        let k = number_at(list, i, h.count);
-        return first_out(
-            book,
-            h,
-            k,
-            list,
-            i + 1,
-            table::cell(table, k, table::VARIABLES),
-        );
+        let k = number_at(list, i, table.book.header.count);
+        let v = table.row(k).variables as usize;
+        return first_out(&table.book, k, list, i + 1, v);
     }
     i
 }

@@ -3,11 +3,8 @@ use Prim.Native.Nat.{ℕ, ◌-◌, ◌≤◌}
 use mathlib.Core.Path.{◌≡◌, ap, ◌∙◌}
 use mathlib.Core.List.{List}
 use Rattle.reply.specs.declared.Refusal.{Refusal}
-use Rattle.reply.specs.declared.Answer as code
-use Rattle.reply.specs.declared.Answer.TheVariants.{Done, Refused}
-use Rattle.reply.specs.Answer.{Answer, says, Answers}
+use Rattle.reply.specs.Answer.{Answer, says, Answers, Outcome}
 use Rattle.reply.specs.Room.{Due, Leaves}
-use Rattle.book.specs.declared.Reading.{Reading}
 use Rattle.book.specs.declared.Span.{Span}
 use Rattle.book.specs.Answer as books
 use Rattle.book.specs.OnBook.{refused_by, reading-says}
@@ -16,30 +13,32 @@ use Rattle.models.specs.Answer.{Reply}
 use Rattle.model.specs.declared.Reply as models
 use Rattle.model.specs.Reply as weighings
 use Rattle.kit.specs.Promises.{Tells, Writes, Hands, ReadsBook, ChecksModel}
+use Rattle.std.specs.Prelude.{Ok, Err}
+use Rattle.book.specs.Read.{Reading}
 
 module _ {r q : ℕ} where
   -- ---- by the cases of an answer
 
-  pub tells-done : (x : code.Answer) {n : ℕ} → x ≡ Done n → (r ≡ 0) × (q ≡ n) → Tells (says x) r q
+  pub tells-done : (x : Outcome) {n : ℕ} → x ≡ Ok n → (r ≡ 0) × (q ≡ n) → Tells (says x) r q
   unfolding says
   tells-done x e t = rw e (record { number = t.0; place = t.1 })
 
-  pub tells-refused : (x : code.Answer) {f : Refusal} → x ≡ Refused f → (r ≡ f.number) × (q ≡ f.place) → Tells (says x) r q
+  pub tells-refused : (x : Outcome) {f : Refusal} → x ≡ Err f → (r ≡ f.number) × (q ≡ f.place) → Tells (says x) r q
   unfolding says
   tells-refused x e t = rw e (record { number = t.0; place = t.1 })
 
   -- ---- by a call's promise
 
-  pub read : (s : List ℕ) {y : Reading} {x : code.Answer} → books.Answers s y → x ≡ refused_by y → Tells (says x) r q → ReadsBook s r q
+  pub read : (s : List ℕ) {y : Reading} {x : Outcome} → books.Answers s y → x ≡ refused_by y → Tells (says x) r q → ReadsBook s r q
   read s w e t = rw (ap says e ∙ reading-says s w) at t
 
-  pub checked : (a : Answer) {x : code.Answer} → Answers a x → Tells (says x) r q → Tells a r q
+  pub checked : (a : Answer) {x : Outcome} → Answers a x → Tells (says x) r q → Tells a r q
   checked a w t = rw w.tells at t
 
-  pub filled : {A : Type 0} (y : Due A) {x : code.Answer} {e : List A} → Leaves y x e → Tells (says x) r q → Writes y r q e
+  pub filled : {A : Type 0} (y : Due A) {x : Outcome} {e : List A} → Leaves y x e → Tells (says x) r q → Writes y r q e
   filled y w t = record { told = rw w.tells at t; room = w.room }
 
-  pub weighed : (s m : List ℕ) (x : models.Reply) {a : code.Answer} → weighings.Replies s m x → a ≡ x.answer → Tells (says a) r q → ChecksModel s m r q x.count x.clause x.values
+  pub weighed : (s m : List ℕ) (x : models.Reply) {a : Outcome} → weighings.Replies s m x → a ≡ x.answer → Tells (says a) r q → ChecksModel s m r q x.count x.clause x.values
   weighed s m x w e t = record {
     told = rw (ap says e ∙ ap (λ (y : Reply). y.answer) w.tells) at t;
     count = ap (λ (y : Reply). y.count) w.tells;

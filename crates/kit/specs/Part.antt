@@ -1,10 +1,9 @@
 -- What a caller of ruahmitz_constraint has in hand: the part of r bytes from byte q on.
-use Rattle.std.specs.Prelude.{ℕ, ◌+◌, ◌≤◌, ◌<◌, ◌≡◌, List, length, take, drop}
+use Rattle.std.specs.Prelude.{ℕ, ◌+◌, ◌≤◌, ◌<◌, ◌≡◌, List, length, take, drop, Ok, Err}
 use Rattle.std.proofs.Common.{sym, ap, ◌∙◌}
 use Rattle.meaning.specs.Book.{Book}
 use Rattle.reply.specs.declared.Refusal.{Refusal}
 use Rattle.book.specs.declared.Header.{Header}
-use Rattle.book.specs.declared.Reading.TheVariants.{Good, Refused}
 use Rattle.book.specs.declared.Span.{Span}
 use Rattle.book.specs.Read.{read, constraint_of}
 use Rattle.book.specs.Span.{absent, span_of, span-of, spans-length, span-refused, span-absent}
@@ -28,15 +27,15 @@ module _ {s : List ℕ} {k r q : ℕ} (u : Hands s k r q) where
   )
 
   -- 0 and 0 for a refused book
-  pub refused-handed : {f : Refusal} → read s ≡ Refused f → (r ≡ 0) × (q ≡ 0)
+  pub refused-handed : {f : Refusal} → read s ≡ Err f → (r ≡ 0) × (q ≡ 0)
   refused-handed {f} e = none-handed (span-refused s k f e)
 
   -- and for an absent clause
-  pub absent-handed : {h : Header} → read s ≡ Good h → h.count ≤ k → (r ≡ 0) × (q ≡ 0)
+  pub absent-handed : {h : Header} → read s ≡ Ok h → h.count ≤ k → (r ≡ 0) × (q ≡ 0)
   absent-handed {h} e a = none-handed (span-absent s k h e a)
 
   -- a constraint that is there has at least one byte
-  pub some-handed : {h : Header} → Bytes s → read s ≡ Good h → k < h.count → 0 < r
+  pub some-handed : {h : Header} → Bytes s → read s ≡ Ok h → k < h.count → 0 < r
   some-handed {h} bytes e a = rw (u.long, constraint-written s h bytes e k a) (constraint-some _)
 
   -- in an accepted book it begins right after what is written before it,

@@ -10,13 +10,10 @@ use Rattle.meaning.specs.Constraint.{Constraint}
 use Rattle.meaning.specs.Book as meant
 use Rattle.meaning.specs.Book.{Book, variable_window, none_such}
 use Rattle.reply.specs.declared.Refusal.{Refusal}
-use Rattle.reply.specs.declared.Answer as answers
-use Rattle.reply.specs.declared.Answer.TheVariants.{Done, Refused}
-use Rattle.reply.specs.Answer.{ok, says}
+use Rattle.reply.specs.Answer.{ok, says, Outcome}
 use Rattle.reply.specs.Among.{refused-not}
 use Rattle.cursor.specs.Meaning.{clause_in}
 use Rattle.book.specs.declared.Header.{Header}
-use Rattle.book.specs.declared.Reading.TheVariants.{Good}
 use Rattle.book.specs.Read.{read}
 use Rattle.book.specs.Meaning.{book_in}
 use Rattle.book.specs.Joined.{count-is}
@@ -31,22 +28,23 @@ use Rattle.parts.specs.Task.{Taken, Started, Tasked, rules_in}
 use Rattle.parts.proofs.Tasks as tasks
 use Rattle.model.specs.declared.Reply as code
 use Rattle.model.specs.Reply.{told}
+use Rattle.std.specs.Prelude.{Ok, Err}
 
 -- ---- one stretch after another: y is the answer of the reply r about a stretch
 
-module _ (r : code.Reply) {y : answers.Answer} (is : y ≡ r.answer) where
+module _ (r : code.Reply) {y : Outcome} (is : y ≡ r.answer) where
   module _ (go : ℕ → Finding) where
-    pub stretch-stop : (f : Finding) {g : Refusal} → told r ≡ outcome f → y ≡ Refused g → told r ≡ outcome (find_then f go)
+    pub stretch-stop : (f : Finding) {g : Refusal} → told r ≡ outcome f → y ≡ Err g → told r ≡ outcome (find_then f go)
     unfolding outcome find_then says
     stretch-stop (clean n) e t = absurd (refused-not (sym (ap says t) ∙ ap says is ∙ ap (λ (x : Reply). x.answer) e))
     stretch-stop (broken n s) e t = e
 
-    pub stretch-more : (f : Finding) {m : ℕ} → told r ≡ outcome f → y ≡ Done m → outcome (go r.count) ≡ outcome (find_then f go)
+    pub stretch-more : (f : Finding) {m : ℕ} → told r ≡ outcome f → y ≡ Ok m → outcome (go r.count) ≡ outcome (find_then f go)
     unfolding outcome find_then says
     stretch-more (clean n) e t = let z : r.count ≡ n = ap (λ (x : Reply). x.count) e in rw z
     stretch-more (broken n s) e t = absurd (refused-not (sym (ap (λ (x : Reply). x.answer) e) ∙ ap says (sym is ∙ t)))
 
-  pub stretch-clean : (f : Finding) {m : ℕ} → told r ≡ outcome f → y ≡ Done m → f ≡ clean r.count
+  pub stretch-clean : (f : Finding) {m : ℕ} → told r ≡ outcome f → y ≡ Ok m → f ≡ clean r.count
   unfolding outcome says
   stretch-clean (clean n) e t = let z : r.count ≡ n = ap (λ (x : Reply). x.count) e in rw z
   stretch-clean (broken n s) e t = absurd (refused-not (sym (ap (λ (x : Reply). x.answer) e) ∙ ap says (sym is ∙ t)))
@@ -77,15 +75,15 @@ module _ (b : Book) (m : List Constraint) where
     unfolding rest tries_from
     split = rw (drop-cons b.clauses k none_such h, add-one k, find-append b m seen (tries b k c) (tries_from b (suc k) (drop (suc k) b.clauses)))
 
-    module _ (r : code.Reply) {y : answers.Answer} (is : y ≡ r.answer) (e : told r ≡ outcome here) where
-      pub rest-stop : {g : Refusal} → y ≡ Refused g → told r ≡ rest seen k
+    module _ (r : code.Reply) {y : Outcome} (is : y ≡ r.answer) (e : told r ≡ outcome here) where
+      pub rest-stop : {g : Refusal} → y ≡ Err g → told r ≡ rest seen k
       rest-stop t = stretch-stop r is _ here e t ∙ sym split
 
-      pub rest_more : {n : ℕ} → y ≡ Done n → rest r.count (k + 1) ≡ rest seen k
+      pub rest_more : {n : ℕ} → y ≡ Ok n → rest r.count (k + 1) ≡ rest seen k
       unfolding rest
       rest_more t = stretch-more r is _ here e t ∙ sym split
 
-      pub seen_more : {n : ℕ} → y ≡ Done n → seen ≡ sum b (take k b.clauses) → r.count ≡ sum b (take (k + 1) b.clauses)
+      pub seen_more : {n : ℕ} → y ≡ Ok n → seen ≡ sum b (take k b.clauses) → r.count ≡ sum b (take (k + 1) b.clauses)
       unfolding sum
       seen_more t q =
           let x = (find-clean b m seen (tries b k c) r.count (stretch-clean r is here e t)).0 in
@@ -106,7 +104,7 @@ module _ (b : Book) (m : List Constraint) where
 
 -- ---- what trying a clause asks
 
-module _ (s : List ℕ) (h : Header) (t l : List ℕ) (k : ℕ) (task : Task) (good : read s ≡ Good h) where
+module _ (s : List ℕ) (h : Header) (t l : List ℕ) (k : ℕ) (task : Task) (good : read s ≡ Ok h) where
   pub asked-task : Started t (book_in s h).arities l → Taken s h k l task → Tasked s h t k task
   asked-task st w = tasks.tasked s h good t l st k task w
 
@@ -118,7 +116,7 @@ module _ (s : List ℕ) (h : Header) (t l : List ℕ) (k : ℕ) (task : Task) (g
       let y = rw vars at x in omega (arith, y)
 
 -- the same of an accepted book, where the code's tests are of the header's count
-module _ (s : List ℕ) (h : Header) (t : List ℕ) (good : read s ≡ Good h) where
+module _ (s : List ℕ) (h : Header) (t : List ℕ) (good : read s ≡ Ok h) where
   abbrev b : Book
   b = book_in s h
 
@@ -128,17 +126,17 @@ module _ (s : List ℕ) (h : Header) (t : List ℕ) (good : read s ≡ Good h) w
   there : (k : ℕ) → k < h.count → k < length b.clauses
   there k l = omega (arith, count-is s h good)
 
-  module _ (seen k : ℕ) (r : code.Reply) {y : answers.Answer} (is : y ≡ r.answer) (e : told r ≡ outcome (find b m seen (tries b k (get_or b.clauses k none_such)))) where
-    pub all-stop : {g : Refusal} → k < h.count → y ≡ Refused g → told r ≡ rest b m seen k
+  module _ (seen k : ℕ) (r : code.Reply) {y : Outcome} (is : y ≡ r.answer) (e : told r ≡ outcome (find b m seen (tries b k (get_or b.clauses k none_such)))) where
+    pub all-stop : {g : Refusal} → k < h.count → y ≡ Err g → told r ≡ rest b m seen k
     all-stop l q = rest-stop b m seen k (there k l) r is e q
 
-    pub all_more : {n : ℕ} → k < h.count → y ≡ Done n → rest b m r.count (k + 1) ≡ rest b m seen k
+    pub all_more : {n : ℕ} → k < h.count → y ≡ Ok n → rest b m r.count (k + 1) ≡ rest b m seen k
     all_more l q = rest_more b m seen k (there k l) r is e q
 
-    pub all_seen : {n : ℕ} → k < h.count → y ≡ Done n → seen ≡ sum b (take k b.clauses) → r.count ≡ sum b (take (k + 1) b.clauses)
+    pub all_seen : {n : ℕ} → k < h.count → y ≡ Ok n → seen ≡ sum b (take k b.clauses) → r.count ≡ sum b (take (k + 1) b.clauses)
     all_seen l q z = seen_more b m seen k (there k l) r is e q z
 
-  pub all_none : (seen k : ℕ) {x : Reply} → h.count ≤ k → x ≡ plain (says (Done 0)) seen → x ≡ rest b m seen k
+  pub all_none : (seen k : ℕ) {x : Reply} → h.count ≤ k → x ≡ plain (says (Ok 0)) seen → x ≡ rest b m seen k
   unfolding says
   all_none seen k l q = q ∙ sym (rest-none b m seen k (omega (arith, count-is s h good)))
 

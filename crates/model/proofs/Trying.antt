@@ -8,16 +8,13 @@ use mathlib.Core.List.{List, ◌∷◌, map}
 use lib.ListN.{length, get_or, take, drop, replicate, take-append-drop}
 use lib.Seq.{length-take-le}
 use lib.IntN.{ℤ, pos}
-use Rattle.reply.specs.declared.Answer as code
-use Rattle.reply.specs.declared.Answer.TheVariants.{Refused}
-use Rattle.reply.specs.Answer.{ok, refuse, says}
+use Rattle.reply.specs.Answer.{ok, refuse, says, Outcome}
 use Rattle.meaning.specs.Constraint.{Constraint}
 use Rattle.meaning.specs.Book as meant
 use Rattle.meaning.specs.Book.{Book, Window, none_such}
 use Rattle.cursor.specs.Steps.{pick}
 use Rattle.cursor.specs.Meaning.{clause_in}
 use Rattle.book.specs.declared.Header.{Header}
-use Rattle.book.specs.declared.Reading.TheVariants.{Good}
 use Rattle.book.specs.Read.{read}
 use Rattle.book.specs.Meaning.{book_in}
 use Rattle.book.specs.Windows.{windows_of, window-some}
@@ -28,6 +25,7 @@ use Rattle.models.specs.Walk.{step, tries, breaks, find}
 use Rattle.models.specs.Answer.{Reply, plain, slots, outcome}
 use Rattle.parts.specs.declared.Task.{Task}
 use Rattle.parts.specs.Task.{breaks_in, Ready, Tasked, rules_in}
+use Rattle.std.specs.Prelude.{Err, Ok}
 
 -- sixteen values, those from n on 0
 pub record Padded (n : ℕ) (vs : List ℤ) : Type 0 where
@@ -75,7 +73,7 @@ module _ (s : List ℕ) (h : Header) (t : List ℕ) (k : ℕ) where
   due n left vs seen = outcome (find b m seen (map (step k) (run (windows_of s h k) n left vs)))
 
   -- all of the clause is due at first
-  pub due-first : (task : Task) (before : ℕ) {left n : ℕ} {vs : List ℤ} → read s ≡ Good h → Tasked s h t k task → n ≡ task.clause.variables →
+  pub due-first : (task : Task) (before : ℕ) {left n : ℕ} {vs : List ℤ} → read s ≡ Ok h → Tasked s h t k task → n ≡ task.clause.variables →
       count (windows_of s h k) task.clause.variables ≤ 1000000 → left ≡ cap (count (windows_of s h k) task.clause.variables) → vs ≡ lows (windows_of s h k) n (replicate 16 (pos 0)) →
       due n left vs before ≡ outcome (find b m before (tries b k (get_or b.clauses k none_such)))
   unfolding due clause_in
@@ -100,7 +98,7 @@ module _ (s : List ℕ) (h : Header) (t : List ℕ) (k : ℕ) where
     split n (suc k) vs l = rw sub-one
 
     -- this one is broken
-    pub due-broken : {a : code.Answer} → r ≡ true → a ≡ Refused (refuse 25 (seen + 1)) → record { answer = says a; count = seen + 1; clause = k; values = vs } ≡ due n left vs seen
+    pub due-broken : {a : Outcome} → r ≡ true → a ≡ Err (refuse 25 (seen + 1)) → record { answer = says a; count = seen + 1; clause = k; values = vs } ≡ due n left vs seen
     unfolding due find pick outcome says
     due-broken y o =
         let z : task.clause.variables < 17 = w.held.sound.few in

@@ -12,19 +12,13 @@ use Rattle.meaning.specs.Constraint.{holds}
 use Rattle.meaning.specs.Book.{Book}
 use Rattle.cursor.specs.declared.Cursor.{Cursor}
 use Rattle.reply.specs.declared.Refusal.{Refusal}
-use Rattle.reply.specs.declared.Answer as answers
-use Rattle.reply.specs.declared.Answer.TheVariants.{Refused}
-use Rattle.reply.specs.Answer.{refused, refuse, says}
-use Rattle.cursor.specs.declared.Step.TheVariants as steps
-use Rattle.cursor.specs.Steps.{pick}
-use Rattle.cursor.specs.Tree.{Got, got, no}
+use Rattle.reply.specs.Answer.{refused, refuse, says, Outcome}
+use Rattle.cursor.specs.Steps.{pick, Read}
+
 use Rattle.cursor.specs.Meaning.{tree_in}
 use Rattle.cursor.specs.Sound.{IsTree}
 use Rattle.book.specs.declared.Header.{Header}
-use Rattle.book.specs.declared.Reading.{Reading}
-use Rattle.book.specs.declared.Reading.TheVariants as readings
-use Rattle.book.specs.declared.Reading.TheVariants.{Good}
-use Rattle.book.specs.Read.{read}
+use Rattle.book.specs.Read.{read, Reading}
 use Rattle.book.specs.Arities.{arity-query}
 use Rattle.book.specs.Meaning.{book_in}
 use Rattle.book.specs.Answer.{Answers}
@@ -40,11 +34,12 @@ use Rattle.parts.specs.Task.{Scanned, Started, rules_in}
 use Rattle.parts.proofs.Tasks as tasks
 use Rattle.model.specs.declared.Reply as code
 use Rattle.model.specs.Reply.{told, parts_of, parts_in, Replies}
+use Rattle.std.specs.Prelude.{Err, Ok}
 
-rules-parts : (y : Got (List Part)) → rules_of y ≡ rules (parts_of y)
+rules-parts : (y : Read (List Part)) → rules_of y ≡ rules (parts_of y)
 unfolding rules_of parts_of
-rules-parts (got ps c) = refl
-rules-parts (no r) = refl
+rules-parts (Ok (ps, c)) = refl
+rules-parts (Err r) = refl
 
 -- a count that stops over a million
 pub few-of : (n : ℕ) {m : ℕ} → m ≡ cap n → m ≤ 1000000 → n ≤ 1000000
@@ -53,17 +48,17 @@ few-of n e l = ⊎_elim (λ h. absurd (let z : ⊥ = omega (arith, cap-large n h
 many-of : (n : ℕ) {m : ℕ} → m ≡ cap n → 1000000 < m → 1000000 < n
 many-of n e l = ⊎_elim (λ h. h) (λ h. absurd (let z : ⊥ = omega (arith, cap-small n h) in z)) (lt-or-le 1000000 n)
 
-pub query-small : (s : List ℕ) (h : Header) {q : ℕ} → read s ≡ Good h → q ≡ h.query → q < 16
+pub query-small : (s : List ℕ) (h : Header) {q : ℕ} → read s ≡ Ok h → q ≡ h.query → q < 16
 query-small s h good e = let k = (read-trailed s h good).kept in omega arith
 
-module _ (s : List ℕ) (h : Header) (t l : List ℕ) {q : ℕ} (good : read s ≡ Good h) (st : Started t (book_in s h).arities l) (e : q ≡ h.query) where
+module _ (s : List ℕ) (h : Header) (t l : List ℕ) {q : ℕ} (good : read s ≡ Ok h) (st : Started t (book_in s h).arities l) (e : q ≡ h.query) where
   abbrev b : Book
   b = book_in s h
 
   abbrev ps : List Part
   ps = parts_in t (book_in s h).arities
 
-  -- the query's constraint, over no variables
+  -- the query's constraint, over Err variables
   query-part : IsPart t 0 (get_or l q 0) (get_or ps b.query no_part)
   unfolding book_in parts_of
   query-part =
@@ -78,12 +73,12 @@ module _ (s : List ℕ) (h : Header) (t l : List ℕ) {q : ℕ} (good : read s �
     test : r ≡ holds [] (get_or ps b.query no_part).rule
     test = p ∙ ap (holds []) (rw query-part.start (sym query-part.is))
 
-    pub weigh-true : {x : Reply} {a : answers.Answer} → r ≡ true → a ≡ Refused (refuse 23 (get_or l q 0)) → x ≡ plain (says a) 0 → x ≡ weighed b ps
+    pub weigh-true : {x : Reply} {a : Outcome} → r ≡ true → a ≡ Err (refuse 23 (get_or l q 0)) → x ≡ plain (says a) 0 → x ≡ weighed b ps
     unfolding weighed pick says
     weigh-true y o z = z ∙ rw (o, sym test ∙ y, query-part.start)
 
     module _ {n : ℕ} (c : n ≡ cap (total b)) (y : r ≡ false) where
-      pub weigh-many : {x : Reply} {a : answers.Answer} → 1000000 < n → a ≡ Refused (refuse 24 0) → x ≡ plain (says a) 0 → x ≡ weighed b ps
+      pub weigh-many : {x : Reply} {a : Outcome} → 1000000 < n → a ≡ Err (refuse 24 0) → x ≡ plain (says a) 0 → x ≡ weighed b ps
       unfolding weighed pick says
       weigh-many k o z = z ∙ rw (o, sym test ∙ y, lt-ltb 1000000 (total b) (many-of (total b) c k))
 
@@ -96,12 +91,12 @@ pub ruleset weighing = (weigh-true, weigh-many, weigh-rest)
 -- ---- the whole reply; y is what reading the book answered
 
 module _ (s t : List ℕ) (y : Reading) (a : Answers s y) where
-  pub reply-refused : (r : code.Reply) {f : Refusal} {x : answers.Answer} → y ≡ readings.Refused f → x ≡ refused_by y → told r ≡ plain (says x) 0 → Replies s t r
+  pub reply-refused : (r : code.Reply) {f : Refusal} {x : Outcome} → y ≡ Err f → x ≡ refused_by y → told r ≡ plain (says x) 0 → Replies s t r
   unfolding model_answer says
-  reply-refused r e o q = record { tells = q ∙ ap (λ (z : answers.Answer). plain (says z) 0) (refused-own o e) ∙ sym (by-refused s (λ n p. plain (refused n p) 0) (λ b. examine b t) a e) }
+  reply-refused r e o q = record { tells = q ∙ ap (λ (z : Outcome). plain (says z) 0) (refused-own o e) ∙ sym (by-refused s (λ n p. plain (refused n p) 0) (λ b. examine b t) a e) }
 
-  module _ (h : Header) (e : y ≡ readings.Good h) where
-    pub good-read : read s ≡ Good h
+  module _ (h : Header) (e : y ≡ Ok h) where
+    pub good-read : read s ≡ Ok h
     good-read = sym a.is ∙ e
 
     answered : model_answer s t ≡ examine (book_in s h) t
@@ -109,14 +104,14 @@ module _ (s t : List ℕ) (y : Reading) (a : Answers s y) where
     answered = by-good s (λ n p. plain (refused n p) 0) (λ b. examine b t) a e
 
     module _ (x : Scan) (w : Scanned t (book_in s h).arities x) where
-      pub started : {d : Cursor} → x.end ≡ steps.Moved d → Started t (book_in s h).arities x.starts
+      pub started : {d : Cursor} → x.end ≡ Ok d → Started t (book_in s h).arities x.starts
       started {d} p = record { starts = w.starts; end = d; passed = sym w.end ∙ p }
 
-      pub reply-model : (r : code.Reply) {f : Refusal} → x.end ≡ steps.Refused f → told r ≡ plain (says (Refused f)) 0 → Replies s t r
+      pub reply-model : (r : code.Reply) {f : Refusal} → x.end ≡ Err f → told r ≡ plain (says (Err f)) 0 → Replies s t r
       unfolding examine judged book_in says
       reply-model r p q = record { tells = q ∙ sym (answered ∙ rw (pass-refused t (book_in s h).arities (sym w.end ∙ p))) }
 
-      pub reply-weighed : (r : code.Reply) {d : Cursor} → x.end ≡ steps.Moved d → told r ≡ weighed (book_in s h) (parts_in t (book_in s h).arities) → Replies s t r
+      pub reply-weighed : (r : code.Reply) {d : Cursor} → x.end ≡ Ok d → told r ≡ weighed (book_in s h) (parts_in t (book_in s h).arities) → Replies s t r
       unfolding examine judged book_in parts_of
       reply-weighed r p q =
           let (ps, k) = pass-moved t (book_in s h).arities (sym w.end ∙ p) in

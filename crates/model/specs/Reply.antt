@@ -1,8 +1,8 @@
 -- What a reply says, and the check's promise.
-use Rattle.std.specs.Prelude.{ℕ, ◌≡◌, List, [], get_or}
+use Rattle.std.specs.Prelude.{ℕ, ◌≡◌, List, [], get_or, Ok, Err}
 use Rattle.std.proofs.Common.{sym, ap, ◌∙◌}
 use Rattle.reply.specs.Answer.{says, says-one}
-use Rattle.cursor.specs.Tree.{Got, got, no}
+
 use Rattle.meaning.specs.Book.{none_such}
 use Rattle.book.specs.declared.Header.{Header}
 use Rattle.book.specs.Meaning.{book_in}
@@ -11,15 +11,16 @@ use Rattle.models.specs.Walk.{find, tries, walk}
 use Rattle.models.specs.Answer.{Reply, outcome, weighed, model_answer}
 use Rattle.parts.specs.Task.{rules_in}
 use Rattle.model.specs.declared.Reply as code
+use Rattle.cursor.specs.Steps.{Read}
 
 -- what each of its fields says
 abbrev pub told : code.Reply → Reply
 told r = record { answer = says r.answer; count = r.count; clause = r.clause; values = r.values }
 
 -- the parts of a model that was read
-unfoldable pub parts_of : Got (List Part) → List Part
-parts_of (got ps c) = ps
-parts_of (no r) = []
+unfoldable pub parts_of : Read (List Part) → List Part
+parts_of (Ok (ps, c)) = ps
+parts_of (Err r) = []
 
 abbrev pub parts_in : List ℕ → List ℕ → List Part
 parts_in s ns = parts_of (model_in s ns)
@@ -43,7 +44,7 @@ weighed_answer s h t = weighed (book_in s h) (parts_in t (book_in s h).arities)
 pub record Replies (book model : List ℕ) (r : code.Reply) : Type 0 where
   pub tells : told r ≡ model_answer book model
 
--- no second reply keeps the same promise
+-- Err second reply keeps the same promise
 pub only : {book model : List ℕ} {r t : code.Reply} → Replies book model r → Replies book model t → r ≡ t
 only {r = r} {t = t} p q =
     let e = p.tells ∙ sym q.tells in

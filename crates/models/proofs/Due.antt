@@ -1,5 +1,5 @@
 -- When 21 to 25 are due, and that all but 25 leave clause and values 0, and the count where nothing was examined.
-use Rattle.std.specs.Prelude.{◌≡◌, true, false, List, [], ◌∷◌, ℕ, zero, suc, ◌+◌, ◌<◌, ◌≤◌, length, get_or, take}
+use Rattle.std.specs.Prelude.{◌≡◌, true, false, List, [], ◌∷◌, ℕ, zero, suc, ◌+◌, ◌<◌, ◌≤◌, length, get_or, take, Ok, Err}
 use Rattle.std.proofs.Math.Path.{refl, ap}
 use Rattle.std.proofs.Common.{sym, ◌∙◌, not-suc-le-zero, length-append}
 use native.Mathlib.Omega.{arith}
@@ -8,7 +8,7 @@ use Rattle.reply.specs.Answer.{refused}
 use Rattle.meaning.specs.Constraint.{Constraint, truth, holds}
 use Rattle.meaning.specs.Book.{Book, Step, query}
 use Rattle.meaning.specs.Model.{Satisfies}
-use Rattle.cursor.specs.Tree.{Got, got, no}
+
 use Rattle.book.specs.OnBook.{on_both}
 use Rattle.encode.specs.Encode.{spell, constraint_bytes}
 use Rattle.encode.specs.Stands.{stands_self}
@@ -21,6 +21,7 @@ use Rattle.models.proofs.Found.{find-clean, walk-clean, walk-total}
 use Rattle.models.proofs.Exact.{instance-assignment, breaks-broken, weighed-by}
 -- what any reply but 25 leaves 0, and when 21 and 22 are due
 pub use Rattle.models.specs.Due.{Plain, unread}
+use Rattle.cursor.specs.Steps.{Read}
 
 never : true ≡ false → ⊥
 never e = let z : ◌≡◌ {A = ℕ} 0 1 = cc in omega arith
@@ -35,10 +36,10 @@ unfolding outcome
 outcome-plain (clean n) = record { zeros = λ h. refl; uncounted = λ h k. absurd (h refl) }
 outcome-plain (broken n s) = record { zeros = λ h. absurd (h refl); uncounted = λ h k. absurd (k refl) }
 
-judged-plain : (b : Book) (y : Got (List Part)) → Plain (judged b y)
+judged-plain : (b : Book) (y : Read (List Part)) → Plain (judged b y)
 unfolding judged
-judged-plain b (got ps c) = weighed-by b ps Plain (λ t. refused-plain 23 _) (λ t u. refused-plain 24 0) (λ t u. outcome-plain (find b (rules ps) 0 (walk b)))
-judged-plain b (no r) = refused-plain r.number r.place
+judged-plain b (Ok (ps, c)) = weighed-by b ps Plain (λ t. refused-plain 23 _) (λ t u. refused-plain 24 0) (λ t u. outcome-plain (find b (rules ps) 0 (walk b)))
+judged-plain b (Err r) = refused-plain r.number r.place
 
 pub model-plain : (book s : List ℕ) → Plain (model_answer book s)
 unfolding model_answer examine

@@ -1,5 +1,5 @@
 -- The model check is exact: it accepts just the bytes that hold a model with few enough assignments, and a broken instance that it names is the first there is.
-use Rattle.std.specs.Prelude.{◌≡◌, ◌↔◌, ◌⊎◌, Bool, ◌&&◌, ℕ, suc, ◌<◌, ◌≤◌, get_or}
+use Rattle.std.specs.Prelude.{◌≡◌, ◌↔◌, ◌⊎◌, Bool, ◌&&◌, ℕ, suc, ◌<◌, ◌≤◌, get_or, Ok, Err}
 use Rattle.std.proofs.Math.Path.{refl, ap}
 use Rattle.std.proofs.Common.{sym, ◌∙◌, inl, inr, ltb-true, ltb-false}
 use Rattle.std.proofs.Math.Bool.{true, false, not}
@@ -23,26 +23,28 @@ use Rattle.meaning.specs.Laws.{Laws}
 use Rattle.meaning.specs.Main.{model-derivation, model-trace, flags-model-trace}
 use Rattle.meaning.specs.Wf.{each_at}
 use Rattle.cursor.specs.declared.Cursor.{Cursor}
-use Rattle.cursor.specs.Tree.{Got, got, no}
-use Rattle.cursor.specs.Inverse.{pick-by, no-tree, then-went}
+
+use Rattle.cursor.specs.Inverse.{pick-by}
 use Rattle.models.specs.Read.{Part, rules, parts_at, model_in}
 use Rattle.models.specs.Walk.{Assignment, walk, total, position, satisfies, met, breaks, Finding, clean, broken, find}
 use Rattle.models.specs.Answer.{Reply, number_of, plain, outcome, no_part, weighed, judged, examine}
 use Rattle.models.specs.Exact.{rule-went, refused-read, Broken, Accepts, FirstBroken, broken_at, Breaks, model_numbers}
 use Rattle.models.proofs.Found.{Among as Within, tried, position-walk, walk-total, Whole, First, find-clean, find-broken, walk-clean}
+use Rattle.cursor.specs.Steps.{Read}
+use Rattle.reply.specs.Then.{no_err, went, same-read}
 
 never : false ≡ true → ⊥
 never e = let z : ◌≡◌ {A = ℕ} 0 1 = cc in omega arith
 
 -- ---- reading
 
-parts-length : (s ns : List ℕ) (c : Cursor) (ps : List Part) (e : Cursor) → parts_at s ns c ≡ got ps e → length ps ≡ length ns
+parts-length : (s ns : List ℕ) (c : Cursor) (ps : List Part) (e : Cursor) → parts_at s ns c ≡ Ok (ps, e) → length ps ≡ length ns
 unfolding parts_at
 parts-length s [] c ps e q =
-    pick-by (λ a. a ≡ got ps e → length ps ≡ 0) _ _ _ (λ t r. let z : ps ≡ [] = cc in rw z) (λ t r. absurd (no-tree _ r)) q
+    pick-by (λ a. a ≡ Ok (ps, e) → length ps ≡ 0) _ _ _ (λ t r. let z = sym (same-read r).0 in rw z) (λ t r. absurd (no_err _ r)) q
 parts-length s (n ∷ ns) c ps e q =
-    rule-went _ _ q λ t d x y. then-went _ _ y λ us f z w.
-    let l : (record { at = c.at; rule = t } ∷ us) ≡ ps = cc in
+    rule-went _ _ q λ t d x y. went _ _ _ no_err y λ (us, f) z w.
+    let l = (same-read w).0 in
     rw (← l) (ap suc (parts-length s ns d us f z))
 
 -- ---- what breaks a model
@@ -86,7 +88,7 @@ module _ (b : Book) (m : List Constraint) where
       go true p false q c r e = absurd (never e)
       go false p q' q c r e = absurd (never e)
 
-  -- the model is closed exactly when no assignment breaks it
+  -- the model is closed exactly when Err assignment breaks it
   closed-whole : Closed ↔ ((s : Step) → Assignment b s → Whole b m s)
   closed-whole = (λ c s a. whole c s a (breaks b m s) refl, λ h s i a. keeps h s i a (satisfies m (head b s)) refl)
     where
@@ -165,10 +167,10 @@ module _ (b : Book) where
       (λ t u. rw p.clear)
 
   module _ (s : List ℕ) where
-    read-passes : (y : Got (List Part)) → model_in s b.arities ≡ y → number_of (judged b y) ≡ 0 → (ps : List Part) × (c : Cursor) × (y ≡ got ps c) × Passes b ps
+    read-passes : (y : Read (List Part)) → model_in s b.arities ≡ y → number_of (judged b y) ≡ 0 → (ps : List Part) × (c : Cursor) × (y ≡ Ok (ps, c)) × Passes b ps
     unfolding judged model_in
-    read-passes (got ps c) e h = (ps, c, refl, passes ps h)
-    read-passes (no r) e h = absurd (fine (refused-read s b.arities e))
+    read-passes (Ok (ps, c)) e h = (ps, c, refl, passes ps h)
+    read-passes (Err r) e h = absurd (fine (refused-read s b.arities e))
       where
         fine : (r.number ≡ 21) ⊎ (r.number ≡ 22) → ⊥
         fine (inl z) = omega arith
@@ -203,7 +205,7 @@ module _ (b : Book) where
     pub accepted-count : number_of (examine b s) ≡ 0 → examine b s ≡ plain ok (total b)
     accepted-count h = accepts-reply (accepts h)
 
-    -- once accepted, no derivation of the query exists, and no trace to it, of any length
+    -- once accepted, Err derivation of the query exists, and Err trace to it, of any length
     pub accepted-derivation : number_of (examine b s) ≡ 0 → ¬ Derivable b (query b)
     accepted-derivation h = model-derivation (accepts h).is
 
@@ -253,11 +255,11 @@ module _ (b : Book) (s : List ℕ) where
       (λ t u h. absurd (let z : ⊥ = omega arith in z))
       (λ t u h. broken-found (rules ps) (find b (rules ps) 0 (walk b)) refl h)
 
-  broken-read : (y : Got (List Part)) → model_in s b.arities ≡ y → number_of (judged b y) ≡ 25 →
-      (ps : List Part) × (c : Cursor) × (y ≡ got ps c) × ((t : Step) × FirstBroken b (rules ps) t × (judged b y ≡ broken_at b t))
+  broken-read : (y : Read (List Part)) → model_in s b.arities ≡ y → number_of (judged b y) ≡ 25 →
+      (ps : List Part) × (c : Cursor) × (y ≡ Ok (ps, c)) × ((t : Step) × FirstBroken b (rules ps) t × (judged b y ≡ broken_at b t))
   unfolding judged model_in
-  broken-read (got ps c) e h = (ps, c, refl, broken-weighed ps h)
-  broken-read (no r) e h = absurd (fine (refused-read s b.arities e))
+  broken-read (Ok (ps, c)) e h = (ps, c, refl, broken-weighed ps h)
+  broken-read (Err r) e h = absurd (fine (refused-read s b.arities e))
     where
       fine : (r.number ≡ 21) ⊎ (r.number ≡ 22) → ⊥
       fine (inl z) = omega arith
@@ -278,11 +280,11 @@ module _ (b : Book) where
   among-outcome (clean n) = among-ok
   among-outcome (broken n s) = among-refused 25 n tt
 
-  among-judged : (s : List ℕ) (y : Got (List Part)) → model_in s b.arities ≡ y → Among model_numbers (judged b y).answer
+  among-judged : (s : List ℕ) (y : Read (List Part)) → model_in s b.arities ≡ y → Among model_numbers (judged b y).answer
   unfolding judged model_in has
-  among-judged s (got ps c) e =
+  among-judged s (Ok (ps, c)) e =
       weighed-by b ps (λ y. Among model_numbers y.answer) (λ t. among-refused 23 _ tt) (λ t u. among-refused 24 _ tt) (λ t u. among-outcome (find b (rules ps) 0 (walk b)))
-  among-judged s (no r) e = among-refused _ _ (fine (refused-read s b.arities e))
+  among-judged s (Err r) e = among-refused _ _ (fine (refused-read s b.arities e))
     where
       fine : (r.number ≡ 21) ⊎ (r.number ≡ 22) → T (has model_numbers r.number)
       fine (inl z) = rw z tt

@@ -1,10 +1,10 @@
 -- What the model check answers, for any book and model bytes: the answer, how many assignments were examined, and the broken one's clause and values.
-use Rattle.std.specs.Prelude.{ℕ, ◌-◌, List, [], ◌++◌, length, get_or, replicate, ltb, ℤ, pos}
+use Rattle.std.specs.Prelude.{ℕ, ◌-◌, List, [], ◌++◌, length, get_or, replicate, ltb, ℤ, pos, Ok, Err}
 use Rattle.reply.specs.Answer.{Answer, refused, ok, number}
 use Rattle.meaning.specs.Constraint.{truth, holds}
 use Rattle.meaning.specs.Book.{Book}
-use Rattle.cursor.specs.Steps.{pick}
-use Rattle.cursor.specs.Tree.{Got, got, no}
+use Rattle.cursor.specs.Steps.{pick, Read}
+
 use Rattle.book.specs.OnBook.{on_book}
 use Rattle.models.specs.Read.{Part, rules, model_in}
 use Rattle.models.specs.Walk.{Finding, clean, broken, find, walk, total}
@@ -42,9 +42,9 @@ weighed b ps =
     (pick (ltb 1000000 (total b)) (plain (refused 24 0) 0)
     (outcome (find b (rules ps) 0 (walk b))))
 
-unfoldable pub judged : Book → Got (List Part) → Reply
-judged b (no r) = plain (refused r.number r.place) 0
-judged b (got ps c) = weighed b ps
+unfoldable pub judged : Book → Read (List Part) → Reply
+judged b (Err r) = plain (refused r.number r.place) 0
+judged b (Ok (ps, c)) = weighed b ps
 
 -- the model's bytes s, where b is the book
 unfoldable pub examine : Book → List ℕ → Reply

@@ -1,5 +1,5 @@
 -- The words of an exact model check: what bytes hold, what it means to accept and to break a model; and laws of what was read.
-use Rattle.std.specs.Prelude.{◌≡◌, ◌⊎◌, ℕ, ◌<◌, ◌≤◌}
+use Rattle.std.specs.Prelude.{◌≡◌, ◌⊎◌, ℕ, ◌<◌, ◌≤◌, Ok, Err}
 use Rattle.std.proofs.Math.Path.{refl}
 use Rattle.std.proofs.Common.{inl, inr}
 use mathlib.Core.List.{List, [], ◌∷◌}
@@ -9,13 +9,15 @@ use Rattle.meaning.specs.Book.{Book, Step, Instance, head, body}
 use Rattle.meaning.specs.Model.{All, Satisfies, Model}
 use Rattle.reply.specs.declared.Refusal.{Refusal}
 use Rattle.cursor.specs.declared.Cursor.{Cursor}
-use Rattle.cursor.specs.Tree.{Got, got, no, then}
-use Rattle.cursor.specs.Inverse.{pick-by, no-tree}
+
+use Rattle.cursor.specs.Inverse.{pick-by}
 use Rattle.book.specs.Answer.{answer, accepted}
 use Rattle.book.specs.OnBook.{on-accepted}
 use Rattle.models.specs.Read.{Part, rules, number_in, in_model, rule_then, parts_at, model_in}
 use Rattle.models.specs.Walk.{Assignment, total, position}
 use Rattle.models.specs.Answer.{Reply, plain, slots, examine, model_answer}
+use Rattle.cursor.specs.Steps.{Read}
+use Rattle.reply.specs.Then.{go_on, ◌>>=◌, no_err}
 
 -- ---- reading
 
@@ -23,36 +25,36 @@ use Rattle.models.specs.Answer.{Reply, plain, slots, examine, model_answer}
 pub record Holds (s ns : List ℕ) (m : List Constraint) : Type 0 where
   pub parts : List Part
   pub end : Cursor
-  pub reads : model_in s ns ≡ got parts end
+  pub reads : model_in s ns ≡ Ok (parts, end)
   pub are : rules parts ≡ m
 
-pub rule-went : (y : Got Constraint) (go : Constraint → Cursor → Got (List Part)) {ps : List Part} {e : Cursor} {Q : Type 0} → rule_then y go ≡ got ps e →
-    ((t : Constraint) (d : Cursor) → y ≡ got t d → go t d ≡ got ps e → Q) → Q
+pub rule-went : (y : Read Constraint) (go : Constraint → Cursor → Read (List Part)) {ps : List Part} {e : Cursor} {Q : Type 0} → rule_then y go ≡ Ok (ps, e) →
+    ((t : Constraint) (d : Cursor) → y ≡ Ok (t, d) → go t d ≡ Ok (ps, e) → Q) → Q
 unfolding rule_then
-rule-went (got t d) go q k = k t d refl q
-rule-went (no r) go q k = absurd (no-tree _ q)
+rule-went (Ok (t, d)) go q k = k t d refl q
+rule-went (Err r) go q k = absurd (no_err _ q)
 
 -- a model's refusals are 21 and 22
-abbrev Fine : Got (List Part) → Type 0
-Fine (got ps c) = Unit {0}
-Fine (no r) = (r.number ≡ 21) ⊎ (r.number ≡ 22)
+abbrev Fine : Read (List Part) → Type 0
+Fine (Ok (ps, c)) = Unit {0}
+Fine (Err r) = (r.number ≡ 21) ⊎ (r.number ≡ 22)
 
-fine-rule : (y : Got Constraint) (go : Constraint → Cursor → Got (List Part)) → ((t : Constraint) (d : Cursor) → Fine (go t d)) → Fine (rule_then y go)
+fine-rule : (y : Read Constraint) (go : Constraint → Cursor → Read (List Part)) → ((t : Constraint) (d : Cursor) → Fine (go t d)) → Fine (rule_then y go)
 unfolding rule_then in_model number_in
-fine-rule (got t d) go h = h t d
-fine-rule (no r) go h = pick-by (λ n. (n ≡ 21) ⊎ (n ≡ 22)) _ _ _ (λ t. inl refl) (λ t. inr refl)
+fine-rule (Ok (t, d)) go h = h t d
+fine-rule (Err r) go h = pick-by (λ n. (n ≡ 21) ⊎ (n ≡ 22)) _ _ _ (λ t. inl refl) (λ t. inr refl)
 
-fine-then : (y : Got (List Part)) (p : Part) → Fine y → Fine (then y (λ ps. got (p ∷ ps)))
-unfolding then
-fine-then (got ps c) p h = tt
-fine-then (no r) p h = h
+fine-then : (y : Read (List Part)) (p : Part) → Fine y → Fine (y >>= λ (ps, e). Ok (p ∷ ps, e))
+unfolding go_on
+fine-then (Ok (ps, c)) p h = tt
+fine-then (Err r) p h = h
 
 parts-fine : (s ns : List ℕ) (c : Cursor) → Fine (parts_at s ns c)
 unfolding parts_at
 parts-fine s [] c = pick-by Fine _ _ _ (λ t. tt) (λ t. inr refl)
 parts-fine s (n ∷ ns) c = fine-rule _ _ λ t d. fine-then (parts_at s ns d) (record { at = c.at; rule = t }) (parts-fine s ns d)
 
-pub refused-read : (s ns : List ℕ) {r : Refusal} → model_in s ns ≡ no r → (r.number ≡ 21) ⊎ (r.number ≡ 22)
+pub refused-read : (s ns : List ℕ) {r : Refusal} → model_in s ns ≡ Err r → (r.number ≡ 21) ⊎ (r.number ≡ 22)
 unfolding model_in
 refused-read s ns e = rw e at (parts-fine s ns (record { at = 0; left = 0 }))
 
@@ -76,7 +78,7 @@ pub record Accepts (b : Book) (s : List ℕ) : Type 0 where
 
 -- ---- refusal 25
 
--- the first broken instance of b for the model m: it is one, and no assignment at an earlier position is
+-- the first broken instance of b for the model m: it is one, and Err assignment at an earlier position is
 pub record FirstBroken (b : Book) (m : List Constraint) (s : Step) : Type 0 where
   pub is : Broken b m s
   pub earlier : (t : Step) → Assignment b t → position b t < position b s → ¬ Broken b m t

@@ -1,18 +1,19 @@
 -- A model written out: bytes hold it exactly when they are its constraints, each within the limits of its arity, one after the other.
-use Rattle.std.specs.Prelude.{◌≡◌, refl, ◌↔◌, List, [], ◌∷◌, ℕ, ◌+◌, ◌-◌, length}
+use Rattle.std.specs.Prelude.{◌≡◌, refl, ◌↔◌, List, [], ◌∷◌, ℕ, ◌+◌, ◌-◌, length, Ok}
 use Rattle.std.proofs.Common.{ap, arith, length-append, eq-eqb, eqb-true}
 use Rattle.meaning.specs.Constraint.{Constraint}
 use Rattle.meaning.specs.Limits.{ConstraintLimits, nodes}
 use Rattle.cursor.specs.declared.Cursor.{Cursor}
 use Rattle.cursor.specs.Steps.{pick}
-use Rattle.cursor.specs.Tree.{got, then}
-use Rattle.cursor.specs.Inverse.{pick-then, no-tree, then-went}
+
+use Rattle.cursor.specs.Inverse.{pick-then}
 use Rattle.encode.specs.Encode.{spell, constraint_bytes}
 use Rattle.encode.specs.Stands.{Stands, Bytes, stands-split, stands_self, stands-whole}
 use Rattle.encode.specs.Reads.{tree-got}
 use Rattle.encode.specs.WrittenTree.{Spans, spans-join, tree-written}
 use Rattle.models.specs.Read.{Part, rules, rule_then, fresh, parts_at, model_in}
 use Rattle.models.specs.Exact.{Holds, rule-went}
+use Rattle.reply.specs.Then.{go_on, no_err, went, same-read}
 
 -- one constraint for each arity, within the limits over so many variables
 abbrev pub Fit : List ℕ → List Constraint → Type 0
@@ -32,8 +33,8 @@ placed-rules p [] = refl
 placed-rules p (t ∷ ts) = ap (λ (l : List Constraint). t ∷ l) (placed-rules (p + length (constraint_bytes t)) ts)
 
 pub parts-written : (s ns : List ℕ) (ts : List Constraint) (c : Cursor) → Fit ns ts → Stands s c.at (spell constraint_bytes ts) →
-    c.at + length (spell constraint_bytes ts) ≡ length s → (e : Cursor) × (parts_at s ns c ≡ got (placed c.at ts) e)
-unfolding parts_at placed spell rule_then then pick
+    c.at + length (spell constraint_bytes ts) ≡ length s → (e : Cursor) × (parts_at s ns c ≡ Ok (placed c.at ts, e))
+unfolding parts_at placed spell rule_then go_on pick
 parts-written s [] [] c f h l = let z : c.at ≡ length s = omega arith in (c, rw (eq-eqb c.at (length s) z))
 parts-written s [] (t ∷ ts) c f h l = absurd f
 parts-written s (n ∷ ns) [] c f h l = absurd f
@@ -54,17 +55,17 @@ written-holds ns m f =
 
 -- ---- and the other way: what was read stands there, written
 
-parts-read : (s : List ℕ) → Bytes s → (ns : List ℕ) (c : Cursor) (ps : List Part) (e : Cursor) → parts_at s ns c ≡ got ps e →
+parts-read : (s : List ℕ) → Bytes s → (ns : List ℕ) (c : Cursor) (ps : List Part) (e : Cursor) → parts_at s ns c ≡ Ok (ps, e) →
     Spans s c.at (length s) (spell constraint_bytes (rules ps)) × Fit ns (rules ps)
 unfolding parts_at spell Stands
 parts-read s y [] c ps e q =
-    pick-then _ _ _ (no-tree _) q λ t r.
-    let z : [] ≡ ps = cc in
+    pick-then _ _ _ (no_err _) q λ t r.
+    let z = (same-read r).0 in
     let a : c.at ≡ length s = eqb-true _ _ t in
     rw (← z) (record { stands = omega arith; past = omega arith }, tt)
 parts-read s y (n ∷ ns) c ps e q =
-    rule-went _ _ q λ t d p r. then-went _ _ r λ us f u v.
-    let z : (record { at = c.at; rule = t } ∷ us) ≡ ps = cc in
+    rule-went _ _ q λ t d p r. went _ _ _ no_err r λ (us, f) u v.
+    let z = (same-read v).0 in
     let one = tree-written s y n 16 (fresh c) p in
     let rest = parts-read s y ns d us f u in
     rw (← z) (

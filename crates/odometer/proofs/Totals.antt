@@ -11,7 +11,6 @@ use Rattle.meaning.specs.Book.{Book, none_such}
 use Rattle.cursor.specs.declared.Clause.{Clause}
 use Rattle.cursor.specs.Meaning.{clause_in}
 use Rattle.book.specs.declared.Header.{Header}
-use Rattle.book.specs.declared.Reading.TheVariants.{Good}
 use Rattle.book.specs.Read.{read}
 use Rattle.book.specs.Meaning.{book_in}
 use Rattle.book.specs.Joined.{Held, count-is}
@@ -20,6 +19,7 @@ use Rattle.models.specs.Assignments.{count}
 use Rattle.models.specs.Walk.{sum, total}
 use Rattle.models.proofs.Found.{sum-append}
 use Rattle.models.specs.Cap.{cap, cap-small, cap-plus}
+use Rattle.std.specs.Prelude.{Ok}
 
 pub total-none : (b : Book) → 0 ≡ cap (sum b [])
 unfolding sum
@@ -34,11 +34,11 @@ cap-both a b =
 
 module _ (s : List ℕ) (h : Header) where
   module _ (k : ℕ) {all : ℕ} where
-    pub total-all : read s ≡ Good h → h.count ≤ k → all ≡ cap (sum (book_in s h) (take k (book_in s h).clauses)) → all ≡ cap (total (book_in s h))
+    pub total-all : read s ≡ Ok h → h.count ≤ k → all ≡ cap (sum (book_in s h) (take k (book_in s h).clauses)) → all ≡ cap (total (book_in s h))
     unfolding total
     total-all good l p = p ∙ rw (take_all k (book_in s h).clauses (omega (arith, count-is s h good)))
 
-    pub total-more : (c : Clause) {n x : ℕ} → read s ≡ Good h → k < h.count → Held s h k c → all ≡ cap (sum (book_in s h) (take k (book_in s h).clauses)) →
+    pub total-more : (c : Clause) {n x : ℕ} → read s ≡ Ok h → k < h.count → Held s h k c → all ≡ cap (sum (book_in s h) (take k (book_in s h).clauses)) →
         n ≡ cap (count (windows_of s h k) c.variables) → x ≡ cap (all + n) → x ≡ cap (sum (book_in s h) (take (k + 1) (book_in s h).clauses))
     unfolding sum clause_in
     total-more c {n} good l w p q e =

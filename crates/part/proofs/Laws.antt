@@ -15,7 +15,6 @@ use Rattle.cursor.specs.Sound.{Arguments, IsTree}
 use Rattle.cursor.specs.Meaning.{atom_in, body_in, clause_in}
 use Rattle.truth.specs.Front.{front-part, front-is-tree, front-tree}
 use Rattle.book.specs.declared.Header.{Header}
-use Rattle.book.specs.declared.Reading.TheVariants.{Good}
 use Rattle.book.specs.Read.{read}
 use Rattle.book.specs.Meaning.{book_in}
 use Rattle.book.specs.Joined.{Held}
@@ -28,6 +27,7 @@ use Rattle.put.specs.Shows.{Lists}
 use Rattle.put.proofs.Laws.{relist, wrote_none}
 use Rattle.script.specs.Lines.{argument, atom_items, body_items, frame, frame_but, clause_part, clause_part_of}
 use Rattle.part.specs.Part.{Stands, atom_of, body_of, clause_of}
+use Rattle.std.specs.Prelude.{Ok}
 
 -- what is said of relation r and its arity
 unfoldable pub by_arity : List ℕ → Header → (ℕ → ℕ → Sexps) → ℕ → Sexps
@@ -69,7 +69,7 @@ module _ (h r m : ℕ) where
 
 -- ---- a record that was read: what stands before the index stands in the whole book
 
-module _ (s : List ℕ) (h : Header) (good : read s ≡ Good h) (k : ℕ) (l : Clause) (w : Held s h k l) where
+module _ (s : List ℕ) (h : Header) (good : read s ≡ Ok h) (k : ℕ) (l : Clause) (w : Held s h k l) where
   abbrev front : List ℕ
   front = take h.start s
 

@@ -8,16 +8,16 @@ use lib.Seq.{drop-cons}
 use borrow.Author.Tests.{lt-ltb, le-ltb}
 use Rattle.cursor.specs.declared.Cursor.{Cursor}
 use Rattle.reply.specs.declared.Refusal.{Refusal}
-use Rattle.cursor.specs.declared.Step.{Step}
-use Rattle.cursor.specs.declared.Step.TheVariants.{Moved, Refused}
 use Rattle.reply.specs.Answer.{refuse}
-use Rattle.cursor.specs.Steps.{pick, step_then}
+use Rattle.cursor.specs.Steps.{pick, Step}
 use Rattle.book.specs.declared.Header.{Header}
 use Rattle.book.specs.Meaning.{book_in}
 use Rattle.models.specs.Read.{number_in, in_model, rule_at, pass_at, starts_at}
 use Rattle.parts.specs.Task.{half_of}
+use Rattle.std.specs.Prelude.{Ok, Err}
+use Rattle.reply.specs.Then.{go_on}
 
-pub in-model-is : (f : Refusal) {n : ℕ} {x : Step} → n ≡ number_in f.number → x ≡ Refused (refuse n f.place) → x ≡ Refused (in_model f)
+pub in-model-is : (f : Refusal) {n : ℕ} {x : Step} → n ≡ number_in f.number → x ≡ Err (refuse n f.place) → x ≡ Err (in_model f)
 unfolding in_model
 in-model-is f e q = q ∙ rw e
 
@@ -26,21 +26,21 @@ module _ (s ns : List ℕ) (k : ℕ) (c : Cursor) (r : Step) where
   row b = rw (add-one k) (drop-cons ns k 0 b)
 
   module _ (b : k < length ns) (e : r ≡ rule_at s (get_or ns k 0) c) where
-    pub pass-more : (d : Cursor) → r ≡ Moved d → pass_at s (drop (k + 1) ns) d ≡ pass_at s (drop k ns) c
-    unfolding pass_at step_then
+    pub pass-more : (d : Cursor) → r ≡ Ok d → pass_at s (drop (k + 1) ns) d ≡ pass_at s (drop k ns) c
+    unfolding pass_at go_on
     pass-more d q = rw (row b, sym e ∙ q)
 
-    pub pass-stop : (f : Refusal) → r ≡ Refused f → Refused f ≡ pass_at s (drop k ns) c
-    unfolding pass_at step_then
+    pub pass-stop : (f : Refusal) → r ≡ Err f → Err f ≡ pass_at s (drop k ns) c
+    unfolding pass_at go_on
     pass-stop f q = rw (row b, sym e ∙ q)
 
-    pub starts_more : (l : List ℕ) (d : Cursor) → r ≡ Moved d →
+    pub starts_more : (l : List ℕ) (d : Cursor) → r ≡ Ok d →
         starts_at s (drop (k + 1) ns) (k + 1) d (set l k c.at) ≡ starts_at s (drop k ns) k c l
-    unfolding starts_at step_then
+    unfolding starts_at go_on
     starts_more l d q = rw (row b, sym e ∙ q)
 
-    pub starts-stop : (l : List ℕ) (f : Refusal) → r ≡ Refused f → set l k c.at ≡ starts_at s (drop k ns) k c l
-    unfolding starts_at step_then
+    pub starts-stop : (l : List ℕ) (f : Refusal) → r ≡ Err f → set l k c.at ≡ starts_at s (drop k ns) k c l
+    unfolding starts_at go_on
     starts-stop l f q = rw (row b, sym e ∙ q)
 
   -- all were read

@@ -14,12 +14,11 @@ use Rattle.meaning.specs.Constraint.{truth, holds}
 use Rattle.meaning.specs.Book.{at, at_body, head, body}
 use Rattle.cursor.specs.declared.Clause.{Clause}
 use Rattle.cursor.specs.Steps.{pick}
-use Rattle.cursor.specs.Tree.{got}
+
 use Rattle.cursor.specs.Meaning.{atom_in, body_in, tree_in, clause_in}
 use Rattle.cursor.specs.Sound.{Sound, Arguments}
 use Rattle.truth.specs.Front.{front-part, front-arguments, front-is-tree, front-tree}
 use Rattle.book.specs.declared.Header.{Header}
-use Rattle.book.specs.declared.Reading.TheVariants.{Good}
 use Rattle.book.specs.Read.{read}
 use Rattle.book.specs.Meaning.{book_in}
 use Rattle.book.specs.Trailer.{read-trailed}
@@ -30,6 +29,7 @@ use Rattle.models.specs.Answer.{no_part}
 use Rattle.models.specs.Passed.{IsPart, parts-start, pass-moved}
 use Rattle.parts.specs.declared.Task.{Task}
 use Rattle.parts.specs.Task.{places_of, met_in, head_in, breaks_in, Side, Ready, half_of, Taken, Tasked, Started, rules_in}
+use Rattle.std.specs.Prelude.{Ok}
 
 -- ---- lists
 
@@ -50,7 +50,7 @@ arguments-more s v m p n h a = record { within = a.within; each = λ j l. omega 
 
 -- ---- what an accepted book lends
 
-module _ (s : List ℕ) (h : Header) (good : read s ≡ Good h) where
+module _ (s : List ℕ) (h : Header) (good : read s ≡ Ok h) where
   -- ---- a relation in a model that was read
 
   module _ (t l : List ℕ) (st : Started t (book_in s h).arities l) where
@@ -63,7 +63,7 @@ module _ (s : List ℕ) (h : Header) (good : read s ≡ Good h) where
     pub relations-length : length ns ≡ h.relations
     relations-length = relations-are s h good
 
-    pub read-parts : (ps : List Part) × (model_in t ns ≡ got ps st.end)
+    pub read-parts : (ps : List Part) × (model_in t ns ≡ Ok (ps, st.end))
     read-parts = pass-moved t ns st.passed
 
     pub part_of : (r : ℕ) → r < h.relations → IsPart t (get_or s r 0) (get_or l r 0) (get_or read-parts.0 r no_part)

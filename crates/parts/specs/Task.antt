@@ -1,8 +1,7 @@
 -- One clause and the model's constraints of its body and head, by where they stand: what the code asks of them, and what they mean.
-use Rattle.std.specs.Prelude.{ℕ, ◌+◌, ◌≤◌, ◌≡◌, Bool, true, false, not, List, map, length, get_or, take, drop, replicate, ltb, eqb, ℤ, pos}
+use Rattle.std.specs.Prelude.{ℕ, ◌+◌, ◌≤◌, ◌≡◌, Bool, true, false, not, List, map, length, get_or, take, drop, replicate, ltb, eqb, ℤ, pos, Ok}
 use Rattle.meaning.specs.Constraint.{Constraint, holds}
 use Rattle.cursor.specs.declared.Cursor.{Cursor}
-use Rattle.cursor.specs.declared.Step.TheVariants.{Moved}
 use Rattle.cursor.specs.Steps.{pick}
 use Rattle.cursor.specs.Meaning.{tree_in}
 use Rattle.cursor.specs.Sound.{Arguments, IsTree}
@@ -28,7 +27,7 @@ pub record Scanned (s ns : List ℕ) (r : Scan) : Type 0 where
 pub record Started (s ns l : List ℕ) : Type 0 where
   pub starts : l ≡ starts_at s ns 0 first (replicate 16 0)
   pub end : Cursor
-  pub passed : pass_at s ns first ≡ Moved end
+  pub passed : pass_at s ns first ≡ Ok end
 
 -- the constraints that a model's bytes hold
 abbrev pub rules_in : List ℕ → List ℕ → List Constraint

@@ -1,8 +1,7 @@
 -- Which refusals an answer can be: those whose numbers stand in a list.
-use Rattle.std.specs.Prelude.{ℕ, ◌≡◌, refl, ◌↔◌, Bool, true, false, List, [], ◌∷◌, ◌++◌, T, eqb}
+use Rattle.std.specs.Prelude.{ℕ, ◌≡◌, refl, ◌↔◌, Bool, true, false, List, [], ◌∷◌, ◌++◌, T, eqb, Ok, Err}
 use Rattle.std.proofs.Common.{arith, sym, ap, ◌∙◌, eqb→eq}
 use Rattle.reply.specs.declared.Refusal.{Refusal}
-use Rattle.reply.specs.declared.Answer.TheVariants.{Done, Refused}
 use Rattle.reply.specs.Answer.{Answer, done, refused, ok, number, need, and_then, refuse, told}
 
 -- n is one of the numbers ns
@@ -97,15 +96,15 @@ zero_ok (done n) w h e = ap done (w.plain refl)
 zero_ok (refused n p) w h e = absurd (h (rw e at (w.among refl)))
 
 -- the code's answer
-pub told-done : (a : Answer) {n : ℕ} → told a ≡ Done n → a ≡ done n
+pub told-done : (a : Answer) {n : ℕ} → told a ≡ Ok n → a ≡ done n
 unfolding told
 told-done (done m) {n} e = let z : m ≡ n = cc in ap done z
 told-done (refused m p) e = absurd (let z : ◌≡◌ {A = ℕ} 0 1 = cc in let w : ⊥ = omega arith in w)
 
-pub told-ok : {ns : List ℕ} (a : Answer) {n : ℕ} → Among ns a → told a ≡ Done n → a ≡ ok
+pub told-ok : {ns : List ℕ} (a : Answer) {n : ℕ} → Among ns a → told a ≡ Ok n → a ≡ ok
 told-ok a {n} w e = let k = told-done a e in let z : n ≡ 0 = w.plain k in k ∙ ap done z
 
-pub told-no : (a : Answer) (g : Refusal) → told a ≡ Refused g → a ≡ refused g.number g.place
+pub told-no : (a : Answer) (g : Refusal) → told a ≡ Err g → a ≡ refused g.number g.place
 unfolding told
 told-no (done n) g e = absurd (let z : ◌≡◌ {A = ℕ} 0 1 = cc in let w : ⊥ = omega arith in w)
 told-no (refused n p) g e = let z : refuse n p ≡ g = cc in rw (← z)

@@ -1,9 +1,7 @@
 -- What a call answers, in document 01's numbers: done is 0 at the length written (at 0 where nothing is), a refusal has its number and place.
-use Rattle.std.specs.Prelude.{ℕ, ◌≡◌, refl, ◌↔◌, Bool, true, false}
+use Rattle.std.specs.Prelude.{ℕ, ◌≡◌, refl, ◌↔◌, Bool, true, false, Result, Ok, Err}
 use Rattle.std.proofs.Common.{sym, ap, ◌∙◌}
 use Rattle.reply.specs.declared.Refusal.{Refusal}
-use Rattle.reply.specs.declared.Answer as code
-use Rattle.reply.specs.declared.Answer.TheVariants.{Done, Refused}
 
 pub data Answer : Type 0 where
   done : ℕ → Answer
@@ -36,47 +34,51 @@ and_then (refused n p) a = refused n p
 abbrev pub refuse : ℕ → ℕ → Refusal
 refuse n p = record { number = n; place = p }
 
+-- done, with the length that was written, or the refusal
+abbrev pub Outcome : Type 0
+Outcome = Result ℕ Refusal
+
 -- the number and the place of each case
-unfoldable pub says : code.Answer → Answer
-says (Done n) = done n
-says (Refused r) = refused r.number r.place
+unfoldable pub says : Outcome → Answer
+says (Ok n) = done n
+says (Err r) = refused r.number r.place
 
 -- the case that says so
-unfoldable pub told : Answer → code.Answer
-told (done n) = Done n
-told (refused n p) = Refused (refuse n p)
+unfoldable pub told : Answer → Outcome
+told (done n) = Ok n
+told (refused n p) = Err (refuse n p)
 
 pub says-told : (a : Answer) → says (told a) ≡ a
 unfolding says told
 says-told (done n) = refl
 says-told (refused n p) = refl
 
-pub told-says : (x : code.Answer) → told (says x) ≡ x
+pub told-says : (x : Outcome) → told (says x) ≡ x
 unfolding says told
-told-says (Done n) = refl
-told-says (Refused r) = refl
+told-says (Ok n) = refl
+told-says (Err r) = refl
 
 -- what says the same is the same
-pub says-one : {x y : code.Answer} → says x ≡ says y → x ≡ y
+pub says-one : {x y : Outcome} → says x ≡ says y → x ≡ y
 says-one {x} {y} e = sym (told-says x) ∙ ap told e ∙ told-says y
 
 -- each case by what it says
-pub says-done : (x : code.Answer) (n : ℕ) → (says x ≡ done n) ↔ (x ≡ Done n)
+pub says-done : (x : Outcome) (n : ℕ) → (says x ≡ done n) ↔ (x ≡ Ok n)
 unfolding says told
 says-done x n = (λ e. sym (told-says x) ∙ ap told e, λ e. ap says e)
 
-pub says-refused : (x : code.Answer) (n p : ℕ) → (says x ≡ refused n p) ↔ (x ≡ Refused (refuse n p))
+pub says-refused : (x : Outcome) (n p : ℕ) → (says x ≡ refused n p) ↔ (x ≡ Err (refuse n p))
 unfolding says told
 says-refused x n p = (λ e. sym (told-says x) ∙ ap told e, λ e. ap says e)
 
 -- ---- the promise of a call that writes nothing, where document 01 says a
 
-pub record Answers (a : Answer) (x : code.Answer) : Type 0 where
+pub record Answers (a : Answer) (x : Outcome) : Type 0 where
   pub tells : says x ≡ a
 
-pub answers : {a : Answer} {x : code.Answer} → x ≡ told a → Answers a x
+pub answers : {a : Answer} {x : Outcome} → x ≡ told a → Answers a x
 answers {a} e = record { tells = ap says e ∙ says-told a }
 
 -- one answer keeps it
-pub answers_one : {a : Answer} {x y : code.Answer} → Answers a x → Answers a y → x ≡ y
+pub answers_one : {a : Answer} {x y : Outcome} → Answers a x → Answers a y → x ≡ y
 answers_one p q = says-one (p.tells ∙ sym q.tells)

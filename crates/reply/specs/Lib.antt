@@ -1,3 +1,4 @@
 pub mod Answer
+pub mod Then
 pub mod Room
 pub mod Among

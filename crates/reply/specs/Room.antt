@@ -7,8 +7,7 @@ use Rattle.std.proofs.Math.ListN.{length}
 use Rattle.std.proofs.Math.Seq.{drop-append_seam}
 use Rattle.std.proofs.Math.Dec.{leb}
 use borrow.Author.Tests.{le-leb}
-use Rattle.reply.specs.declared.Answer as code
-use Rattle.reply.specs.Answer.{Answer, done, refused, says, told, says-told, says-one}
+use Rattle.reply.specs.Answer.{Answer, done, refused, says, told, says-told, says-one, Outcome}
 use Rattle.reply.specs.Among.{refused-not}
 
 -- what is due: the answer, and the room afterwards
@@ -34,15 +33,15 @@ written (done n) t d = elim (leb (length t) (length d)) [
 
 -- ---- the promise of a call with a room: x is its answer, and e the room that is left
 
-pub record Leaves {A : Type 0} (y : Due A) (x : code.Answer) (e : List A) : Type 0 where
+pub record Leaves {A : Type 0} (y : Due A) (x : Outcome) (e : List A) : Type 0 where
   pub tells : says x ≡ y.answer
   pub room : e ≡ y.room
 
-pub leaves : {A : Type 0} {y : Due A} {x : code.Answer} {e : List A} → x ≡ told y.answer → e ≡ y.room → Leaves y x e
+pub leaves : {A : Type 0} {y : Due A} {x : Outcome} {e : List A} → x ≡ told y.answer → e ≡ y.room → Leaves y x e
 leaves {y = y} p q = record { tells = ap says p ∙ says-told y.answer; room = q }
 
 -- one answer and one room keep it
-pub leaves-one : {A : Type 0} {y : Due A} {x z : code.Answer} {e f : List A} → Leaves y x e → Leaves y z f → (x ≡ z) × (e ≡ f)
+pub leaves-one : {A : Type 0} {y : Due A} {x z : Outcome} {e f : List A} → Leaves y x e → Leaves y z f → (x ≡ z) × (e ≡ f)
 leaves-one p q = (says-one (p.tells ∙ sym q.tells), p.room ∙ sym q.room)
 
 -- ---- what is written

@@ -1,9 +1,8 @@
 // What a call answers: done, or the refusal.
 #![tactic(auto)]
 
-ghost use Rattle.std.specs.Prelude.{◌≡◌};
+ghost use Rattle.std.specs.Prelude.{◌≡◌, Err};
 ghost use Rattle.reply.specs.Answer.{refuse as refusal};
-ghost use Rattle.reply.specs.declared.Answer.TheVariants.{Refused};
 
 // A refusal: its number and place.
 #[derive(Clone, Copy)]
@@ -13,18 +12,11 @@ pub struct Refusal {
 }
 
 // Done, with the length that was written (0 where nothing is), or the refusal.
-#[derive(Clone, Copy)]
-pub enum Answer {
-    Done(usize),
-    Refused(Refusal),
-}
+pub type Answer = Result<usize, Refusal>;
 
-// The refusal with this number at this place.
-pub fn refuse(number: u8, place: usize) -> Answer
-    ensures { result ≡ Refused (refusal number place) }
+// The refusal with this number at this place, of any call.
+pub fn refuse<T>(number: u8, place: usize) -> Result<T, Refusal>
+    ensures { result ≡ Err (refusal number place) }
 {
-    Answer::Refused(Refusal {
-        number: number,
-        place: place,
-    })
+    Err(Refusal { number, place })
 }

@@ -20,7 +20,6 @@ use Rattle.lists.specs.Instance.{clause_at, step_at}
 use Rattle.lists.specs.Derivation.{goal}
 use Rattle.lists.specs.Trace.{flat, state_numbers, has, meets}
 use Rattle.book.specs.declared.Header.{Header}
-use Rattle.book.specs.declared.Reading.TheVariants.{Good}
 use Rattle.book.specs.Read.{read}
 use Rattle.book.specs.Meaning.{book_in}
 use Rattle.book.specs.Arities.{relations-are}
@@ -32,6 +31,7 @@ use Rattle.state.specs.State.{front, rows_of, state_of, over, row_put}
 use Rattle.state.specs.Laws.{front_length, front-take, rows-cons, state-has}
 use Rattle.state.proofs.Shape.{relations-few, arities-small, arity-cons, arity-none}
 use Rattle.state.proofs.Difference.{diff-nil, diff-all, parts-stop, parts-on}
+use Rattle.std.specs.Prelude.{Ok}
 
 -- ---- a flag's number
 
@@ -66,7 +66,7 @@ module _ (ns : List ℕ) (r : ℕ) (vs : List (List ℤ)) where
 
 -- ---- the numbers of a state
 
-pub numbers-are : (s : List ℕ) (h : Header) (fs : List Bool) (vs : List (List ℤ)) (n : ℕ) → read s ≡ Good h → n ≡ h.relations
+pub numbers-are : (s : List ℕ) (h : Header) (fs : List Bool) (vs : List (List ℤ)) (n : ℕ) → read s ≡ Ok h → n ≡ h.relations
     → state_numbers (book_in s h) flags (state_of (book_in s h).arities fs vs) ≡ map bit (front false n fs) ++ flat (rows_of (book_in s h).arities vs)
 unfolding state_numbers state_of
 numbers-are s h fs vs n good k = rw (k, relations-are s h good)
@@ -94,7 +94,7 @@ vals-turn [] (y ∷ ys) = refl
 vals-turn (x ∷ xs) [] = refl
 vals-turn (x ∷ xs) (y ∷ ys) = ap₂ ◌&&◌ (eq_z-turn x y) (vals-turn xs ys)
 
-module _ (s : List ℕ) (h : Header) (good : read s ≡ Good h) (fs : List Bool) (vs : List (List ℤ)) {r : ℕ} (below : r < h.relations) {n : ℕ} (full : n ≡ get_or (book_in s h).arities r 0) where
+module _ (s : List ℕ) (h : Header) (good : read s ≡ Ok h) (fs : List Bool) (vs : List (List ℤ)) {r : ℕ} (below : r < h.relations) {n : ℕ} (full : n ≡ get_or (book_in s h).arities r 0) where
   pub has-is : (vals : List ℤ) → has (book_in s h) flags (goal r vals) (state_of (book_in s h).arities fs vs) ≡ (get_or fs r false && eq_vals (front (pos 0) n (get_or vs r [])) vals)
   has-is vals = rw (← full) at (state-has (book_in s h).arities fs vs (book_in s h) (goal r vals) (rw (relations-are s h good) below))
 
@@ -106,7 +106,7 @@ module _ (s : List ℕ) (h : Header) (good : read s ≡ Good h) (fs : List Bool)
       → x ≡ has (book_in s h) flags (goal r vals) (state_of (book_in s h).arities fs vs)
   holds_row vals k on q = rw (has-is vals, on, front-take (pos 0) n (get_or vs r []) k) (q ∙ vals-turn vals (take n (get_or vs r [])))
 
-module _ (s : List ℕ) (h : Header) (good : read s ≡ Good h) (fs : List Bool) (vs : List (List ℤ)) (r : ℕ) (vals : List ℤ) (below : r < h.relations) (full : length vals ≡ get_or (book_in s h).arities r 0) where
+module _ (s : List ℕ) (h : Header) (good : read s ≡ Ok h) (fs : List Bool) (vs : List (List ℤ)) (r : ℕ) (vals : List ℤ) (below : r < h.relations) (full : length vals ≡ get_or (book_in s h).arities r 0) where
   pub holds_on : {d : ℕ} → length vals ≤ length (get_or vs r []) → d ≡ first_diff 0 (get_or vs r []) (front (pos 0) (length vals) vals) → get_or fs r false ≡ true
       → leb (length vals) d ≡ has (book_in s h) flags (goal r vals) (state_of (book_in s h).arities fs vs)
   holds_on k q on =

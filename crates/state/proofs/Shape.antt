@@ -9,13 +9,13 @@ use lib.Seq.{drop-cons}
 use Rattle.meaning.specs.State.{flags}
 use Rattle.lists.specs.Trace.{sum, size}
 use Rattle.book.specs.declared.Header.{Header}
-use Rattle.book.specs.declared.Reading.TheVariants.{Good}
 use Rattle.book.specs.Read.{read}
 use Rattle.book.specs.Meaning.{book_in}
 use Rattle.book.specs.Trailer.{read-trailed}
 use Rattle.book.specs.Arities.{relations-are, arity-is, arity-small}
+use Rattle.std.specs.Prelude.{Ok}
 
-module _ (s : List ℕ) (h : Header) (good : read s ≡ Good h) where
+module _ (s : List ℕ) (h : Header) (good : read s ≡ Ok h) where
   pub relations-few : h.relations ≤ 16
   relations-few = (read-trailed s h good).kept.few
 

@@ -1,6 +1,5 @@
 -- What a record of an accepted book puts into its row.
 use Prim.Native.Nat.{ℕ, zero, suc, ◌+◌, ◌<◌, ◌≤◌}
-use native.Mathlib.Decide.{dec_lt}
 use native.Mathlib.Omega.{arith}
 use mathlib.Core.Path.{◌≡◌, refl, sym, ap, ◌∙◌}
 use mathlib.Core.Logic.{◌⊎◌, inl, inr}
@@ -17,13 +16,14 @@ use Rattle.cursor.specs.Meaning.{atom_in, body_in, clause_in}
 use Rattle.cursor.specs.Sound.{Arguments, tree-part}
 use Rattle.truth.specs.Front.{front-is-tree, front-tree}
 use Rattle.book.specs.declared.Header.{Header}
-use Rattle.book.specs.declared.Reading.TheVariants.{Good}
 use Rattle.book.specs.Read.{read}
-use Rattle.book.specs.Meaning.{book_in}
-use Rattle.book.specs.Joined.{Held}
+use Rattle.book.specs.Joined.{Held, record-read, held}
 use Rattle.book.specs.Trailer.{read-trailed}
 use Rattle.book.specs.Arities.{arity-is, arity-small}
-use Rattle.table.specs.Table.{seat_of, many_of, row_of, Fits, Seated, SeatedBody, Row}
+use Rattle.std.specs.Prelude as code
+use Rattle.table.specs.declared.Row.{Row}
+use Rattle.table.specs.Table.{seat_of, body_of, row_of, no_row, Fits, Seated, SeatedBody, IsRow, Tabled}
+use Rattle.std.specs.Prelude.{Ok}
 
 -- a part that lies in the front of a list
 part-front : (s : List ℕ) (m p n : ℕ) → p + n ≤ m → take n (drop p (take m s)) ≡ take n (drop p s)
@@ -33,25 +33,16 @@ part-front [] (suc m) (suc p) n h = refl
 part-front (x ∷ s) zero (suc p) n h = absurd (let z : ⊥ = omega arith in z)
 part-front (x ∷ s) (suc m) (suc p) n h = part-front s m p n (omega arith)
 
-module _ (r p : ℕ) where
-  pub seat-none : r ≡ 255 → seat_of r p ≡ 0
-  unfolding seat_of pick
-  seat-none n = rw (eq-eqb r 255 n)
+module _ (s : List ℕ) (h : Header) (r p : ℕ) where
+  pub body-none : r ≡ 255 → body_of s h r p ≡ code.None
+  unfolding body_of pick
+  body-none n = rw (eq-eqb r 255 n)
 
-  pub seat-some : (r ≡ 255 → ⊥) → seat_of r p ≡ p + 1
-  unfolding seat_of pick
-  seat-some n = rw (ne_eqb r 255 n)
+  pub body-some : (r ≡ 255 → ⊥) → body_of s h r p ≡ code.Some (seat_of s h r p)
+  unfolding body_of pick
+  body-some n = rw (ne_eqb r 255 n)
 
-module _ (s : List ℕ) (h : Header) (r : ℕ) where
-  pub many-none : r ≡ 255 → many_of s h r ≡ 0
-  unfolding many_of pick
-  many-none n = rw (eq-eqb r 255 n)
-
-  pub many-some : (r ≡ 255 → ⊥) → many_of s h r ≡ get_or (book_in s h).arities r 0
-  unfolding many_of pick
-  many-some n = rw (ne_eqb r 255 n)
-
-module _ (s : List ℕ) (h : Header) (good : read s ≡ Good h) (k : ℕ) (c : Clause) (w : Held s h k c) where
+module _ (s : List ℕ) (h : Header) (good : read s ≡ Ok h) (k : ℕ) (c : Clause) (w : Held s h k c) where
   abbrev f : List ℕ
   f = take h.start s
 
@@ -75,12 +66,11 @@ module _ (s : List ℕ) (h : Header) (good : read s ≡ Good h) (k : ℕ) (c : C
   arity-front : (r : ℕ) → r < h.relations → get_or f r 0 ≡ get_or s r 0
   arity-front r b = let t = (read-trailed s h good).kept in get_or-take h.start s r 0 (omega arith)
 
-  seated : (r p : ℕ) → r < h.relations → Arguments f c.variables (p + 1) (get_or f r 0) → Seated s h c.variables (atom_in f r p) r (seat_of r p) (many_of s h r)
-  unfolding atom_in
+  seated : (r p : ℕ) → r < h.relations → Arguments f c.variables (p + 1) (get_or f r 0) → Seated s h c.variables (atom_in f r p) (seat_of s h r p)
+  unfolding atom_in seat_of
   seated r p b a =
-      let n = some-relation r b in
       let e = arity-front r b ∙ sym (arity-is s h good r b) in
-      rw (seat-some r p n, many-some s h r n, ← e) (record {
+      rw (← e) (record {
         is = refl;
         below = b;
         full = e;
@@ -91,12 +81,12 @@ module _ (s : List ℕ) (h : Header) (good : read s ≡ Good h) (k : ℕ) (c : C
 
   -- the row says what the meaning's clause is
   body-says : (c.body ≡ 255) ⊎ ((c.body < h.relations) × Arguments f c.variables (c.body_at + 1) (get_or f c.body 0)) →
-      SeatedBody s h c.variables (body_in f c.body c.body_at) c.body (seat_of c.body c.body_at) (many_of s h c.body)
-  unfolding SeatedBody body_in pick
-  body-says (inl e) = rw (eq-eqb c.body 255 e) e
+      SeatedBody s h c.variables (body_in f c.body c.body_at) (body_of s h c.body c.body_at)
+  unfolding SeatedBody body_in body_of pick
+  body-says (inl e) = rw (eq-eqb c.body 255 e) tt
   body-says (inr (b, a)) = rw (ne_eqb c.body 255 (some-relation c.body b)) (seated c.body c.body_at b a)
 
-  pub row-says : Row s h k (row_of s h c)
+  pub row-says : IsRow s h k (row_of s h c)
   unfolding row_of clause_in
   row-says =
       let x = w.sound in
@@ -122,27 +112,24 @@ module _ (s : List ℕ) (h : Header) (good : read s ≡ Good h) (k : ℕ) (c : C
       let y = t.kept in
       let r = tree-part f c.variables c.rule x.tree in
       record {
-        seat = λ n. (body-fits x.body n).0;
-        body = λ n. (body-fits x.body n).1;
-        place = λ n. omega (arith, x.place, long, t.short);
-        head = λ n. x.head;
+        body = body-fits x.body;
+        head = (omega (arith, x.place, long, t.short), x.head);
         rule = omega (arith, long, t.short);
-        variables = omega (arith, x.few);
       }
 
 -- ---- the table, one row more
 
-below : (j k : ℕ) → j < k + 1 → (j ≡ k → ⊥) → j < k
-below j k b n = go (dec_lt j k)
+pub rows_more : (P : ℕ → Row → Type 0) (t : List Row) (k : ℕ) {r : Row} → k < length t → P k r
+    → ((j : ℕ) → j < k → P j (get_or t j no_row)) → (j : ℕ) → j < k + 1 → P j (get_or (set t k r) j no_row)
+rows_more P t k {r} there w rows j b = go (eqb j k) refl
   where
-    go : Dec (j < k) → j < k
-    go (yes h) = h
-    go (no m) = absurd (n (omega arith))
+    go : (x : Bool) → eqb j k ≡ x → P j (get_or (set t k r) j no_row)
+    go true q = let e : j ≡ k = eqb-true j k q in rw (e, get_or-set_same t k r no_row there) w
+    go false q = let n = eqb-false j k q in let m : j < k = omega (arith, n) in rw (get_or-set_other t k j r no_row n) (rows j m)
 
-pub rows_more : (s : List ℕ) (h : Header) (t : List (List ℕ)) (k : ℕ) {r : List ℕ} → k < length t → Row s h k r
-    → ((j : ℕ) → j < k → Row s h j (get_or t j [])) → (j : ℕ) → j < k + 1 → Row s h j (get_or (set t k r) j [])
-rows_more s h t k {r} there w rows j b = go (eqb j k) refl
-  where
-    go : (x : Bool) → eqb j k ≡ x → Row s h j (get_or (set t k r) j [])
-    go true q = let e : j ≡ k = eqb-true j k q in rw (e, get_or-set_same t k r [] there) w
-    go false q = let n = eqb-false j k q in rw (get_or-set_other t k j r [] n) (rows j (below j k b n))
+-- every row of a table says what its clause is
+pub table-says : (s : List ℕ) (h : Header) (t : List Row) → read s ≡ Ok h → Tabled s h t → (k : ℕ) → k < h.count → IsRow s h k (get_or t k no_row)
+table-says s h t good w k b =
+    let r = record-read s h good k b in
+    let x = held s h good k b r.clause r.past r.reads in
+    rw (w.row k b _ x) (row-says s h good k _ x)

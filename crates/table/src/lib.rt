@@ -1,100 +1,109 @@
-// The clauses of an accepted book as a table, made once a call: eight numbers for each clause, so that a step finds what it needs of its clause in one row.
+// The clauses of a book that was read as a table, made once a call: a row for each, in which a step finds what it needs of its clause.
 #![tactic(auto)]
 
-ghost use Rattle.std.specs.Prelude.{◌≡◌, ◌+◌, ◌<◌, ◌≤◌, [], length, get_or};
-ghost use Rattle.book.specs.Read.{read};
-ghost use Rattle.book.specs.declared.Reading.TheVariants.{Good};
-ghost use Rattle.book.specs.Joined.{Held};
-ghost use Rattle.table.specs.Table.{seat_of, many_of, row_of, Fits, Tabled};
+ghost use Rattle.std.specs.Prelude.{◌≡◌, ◌<◌};
+ghost use Rattle.table.specs.Table.{seat_of, body_of, row_of, Fits, Tabled};
 
-// The numbers of a row: how many variables the clause has; its body's relation (255 for none), where that one's arguments begin in the book and how
-// many there are; the same of its head; where its constraint begins.
-pub const VARIABLES: usize = 0;
+use book::Book;
 
-pub const BODY: usize = 1;
-
-pub const BODY_AT: usize = 2;
-
-pub const BODY_MANY: usize = 3;
-
-pub const HEAD: usize = 4;
-
-pub const HEAD_AT: usize = 5;
-
-pub const HEAD_MANY: usize = 6;
-
-pub const RULE: usize = 7;
-
-// A number of a row as a count or a place.
-fn wide(x: u16) -> usize
-    ensures { (result ≡ x) × (result < 65536) }
-{
-    x as usize
+// An atom of a clause: where its arguments begin in the book, its relation, and how many arguments there are.
+#[derive(Clone, Copy)]
+pub struct Seat {
+    pub at: u16,
+    pub relation: u8,
+    pub many: u8,
 }
 
-// a byte as a number of a row
-fn short(x: u8) -> u16
-    ensures { result ≡ x }
-{
-    x as u16
+// A clause: where its constraint begins in the book, how many variables it has, its head, and its body, if it has one.
+#[derive(Clone, Copy)]
+pub struct Row {
+    pub rule: u16,
+    pub variables: u8,
+    pub head: Seat,
+    pub body: Option<Seat>,
 }
 
-// where the arguments of relation r begin, whose number stands at p; 0 for none
-fn seat_of(r: u8, p: usize) -> u16
-    requires { (r ≡ 255 → ⊥) → p < 60000 }
-    ensures { result ≡ seat_of r p }
-{
-    if r == 255 { 0 } else { (p + 1) as u16 }
+// A book that was read, with a row for each of its clauses.
+#[derive(Clone, Copy)]
+pub struct Table<'a> {
+    pub book: Book<'a>,
+    pub rows: [Row; 64],
+    pub ghost tabled: { Tabled book.bytes.now book.header rows },
 }
 
-// how many there are
-fn many_of(book: &[u8], h: book::Header, r: u8) -> u16
-    requires accepted { read book.now ≡ Good h }
-    requires r_lt_relations { (r ≡ 255 → ⊥) → r < h.relations }
-    ensures { result ≡ many_of book.now h r }
+impl Row {
+    // no clause's
+    const NONE: Row = Row {
+        rule: 0,
+        variables: 0,
+        head: Seat {
+            at: 0,
+            relation: 0,
+            many: 0,
+        },
+        body: None,
+    };
+}
+
+// the seat of relation r, whose number stands at p
+#[tactic(auto, unfolding(crate::specs::Table::seat_of))]
+fn seat_of(book: &Book, r: u8, p: usize) -> Seat
+    requires { (p < 60000) × (r < book.now.header.relations) }
+    ensures { result ≡ seat_of book.now.bytes.now book.now.header r p }
+{
+    Seat {
+        at: (p + 1) as u16,
+        relation: r,
+        many: book.arity(r as usize) as u8,
+    }
+}
+
+// the same of a body, where 255 is none
+#[tactic(auto, unfolding(crate::specs::Table::body_of, cursor::specs::Steps::pick))]
+fn body_of(book: &Book, r: u8, p: usize) -> Option<Seat>
+    requires { (r ≡ 255 → ⊥) → (p < 60000) × (r < book.now.header.relations) }
+    ensures { result ≡ body_of book.now.bytes.now book.now.header r p }
 {
     if r == 255 {
-        return 0;
+        return None;
     }
-    book::arity_of(book, h, r as usize) as u16
+    Some(seat_of(book, r, p))
 }
 
 // a clause's row
-fn row_of(book: &[u8], h: book::Header, c: cursor::Clause) -> [u16; 8]
-    requires accepted { read book.now ≡ Good h }
-    requires fits { Fits h c }
-    ensures { result ≡ row_of book.now h c }
+#[tactic(auto, unfolding(crate::specs::Table::row_of))]
+fn row_of(book: &Book, c: cursor::Clause) -> Row
+    requires { Fits book.now.header c }
+    ensures { result ≡ row_of book.now.bytes.now book.now.header c }
 {
-    [
-        short(c.variables),
-        short(c.body),
-        seat_of(c.body, c.body_at),
-        many_of(book, h, c.body),
-        short(c.head),
-        seat_of(c.head, c.head_at),
-        many_of(book, h, c.head),
-        c.rule as u16,
-    ]
-}
-
-// The table of an accepted book; rows past its clauses are 0.
-pub fn table_of(book: &[u8], h: book::Header) -> [[u16; 8]; 64]
-    requires { read book.now ≡ Good h }
-    ensures { Tabled book.now h result }
-{
-    let mut table = [[0u16; 8]; 64];
-    let mut k = 0;
-    while k < h.count {
-        table[k] = row_of(book, h, book::record(book, h, k));
-        k += 1;
+    Row {
+        rule: c.rule as u16,
+        variables: c.variables,
+        head: seat_of(book, c.head, c.head_at),
+        body: body_of(book, c.body, c.body_at),
     }
-    table
 }
 
-// Number j of row k.
-pub fn cell(table: &[[u16; 8]; 64], k: usize, j: usize) -> usize
-    requires { (k < 64) × (j < 8) }
-    ensures { (result ≡ get_or (get_or table.now k []) j 0) × (result < 65536) }
-{
-    wide(table[k][j])
+impl<'a> Table<'a> {
+    ghost use Rattle.table.specs.Table.{IsRow};
+
+    // The table of a book.
+    pub fn of(book: Book<'a>) -> Table<'a>
+        ensures { result.book ≡ book.entry }
+    {
+        let mut rows = [Row::NONE; 64];
+        for k in 0..book.header.count {
+            rows[k] = row_of(&book, book.record(k));
+        }
+        Table { book, rows }
+    }
+
+    // The row of clause k.
+    #[inline(always)]
+    pub fn row(&self, k: usize) -> Row
+        requires { k < self.now.book.header.count }
+        ensures { IsRow self.now.book.bytes.now self.now.book.header k result }
+    {
+        self.rows[k]
+    }
 }

@@ -3,20 +3,18 @@ use mathlib.Core.Path.{◌≡◌, refl, sym, ap, ◌∙◌}
 use mathlib.Core.List.{List, ◌∷◌}
 use Prim.Native.Nat.{ℕ, zero, suc, ◌-◌}
 use native.Mathlib.Numerals.{sub-one}
+use Rattle.std.specs.Prelude.{Ok, Err}
+use Rattle.reply.specs.declared.Refusal.{Refusal}
+use Rattle.reply.specs.Then.{go_on, went, no_err, same-read}
 use Rattle.meaning.specs.Constraint.{Constraint, truth, at_most, equal, not, and, or, remainder}
 use Rattle.cursor.specs.declared.Cursor.{Cursor}
-use Rattle.reply.specs.declared.Refusal.{Refusal}
 use Rattle.cursor.specs.declared.Comparison.{Comparison}
 use Rattle.cursor.specs.declared.Comparison.TheVariants.{AtMost, Equal}
 use Rattle.cursor.specs.declared.Remains.{Remains}
 use Rattle.cursor.specs.declared.Node.{Node}
 use Rattle.cursor.specs.declared.Node.TheVariants as nodes
-use Rattle.cursor.specs.declared.NodeStep.{NodeStep}
-use Rattle.cursor.specs.declared.NodeStep.TheVariants.{Got, Refused}
-use Rattle.cursor.specs.Steps.{node_then, byte_at, node_at}
-use Rattle.cursor.specs.Tree as trees
-use Rattle.cursor.specs.Tree.{got, then, sum_of, grow, tree_at}
-use Rattle.cursor.specs.Inverse.{byte-went, then-went, no-tree}
+use Rattle.cursor.specs.Steps.{Read, byte_at, node_at}
+use Rattle.cursor.specs.Tree.{sum_of, joined, grow, tree_at}
 use Rattle.cursor.specs.Sound.{IsTree}
 use Rattle.cursor.specs.Meaning.{tree_of, tree_in}
 use Rattle.sexp.specs.Bytes.{bytes}
@@ -29,34 +27,29 @@ use Rattle.term.specs.declared.Rule.{Rule}
 use Rattle.term.specs.Drawn.{compared_of, remains_of, Drawn, DrawnTwo}
 
 -- what is read is t, and reading ends at c
-drawn : {k : ℕ} {p q : Printer} {next : Cursor} (t : Constraint) (c : Cursor) → next ≡ c → Shows p q (constraint k t) → Drawn k (got t c) p q next
-drawn t c n u = record {
-  holds = λ t' c' y.
-      let same : t ≡ t' = cc in
-      let end : c ≡ c' = cc in
-      (rw same at u, n ∙ end);
-}
+drawn : {k : ℕ} {p q : Printer} {next : Cursor} (t : Constraint) (c : Cursor) → next ≡ c → Shows p q (constraint k t) → Drawn k (Ok (t, c)) p q next
+drawn t c n u = record { holds = λ t' c' y. let (same, ends) = same-read y in (rw same at u, n ∙ ends) }
 
 -- nothing is read
-undrawn : {k : ℕ} {p q : Printer} {next : Cursor} (y : trees.Got Constraint) → ((t : Constraint) (c : Cursor) → y ≡ got t c → ⊥) → Drawn k y p q next
+undrawn : {k : ℕ} {p q : Printer} {next : Cursor} (y : Read Constraint) → ((t : Constraint) (c : Cursor) → y ≡ Ok (t, c) → ⊥) → Drawn k y p q next
 undrawn y n = record { holds = λ t c e. absurd (n t c e) }
 
 module _ (k : ℕ) (s : List ℕ) (v depth : ℕ) (c : Cursor) {p q : Printer} {last : Cursor} where
   pub draw-none : depth ≡ 0 → Drawn k (tree_at s v depth c) p q last
   unfolding tree_at
-  draw-none h = rw h (undrawn _ (λ t f e. byte-went (byte_at s c) _ _ no-tree e (λ _ _ _ z. no-tree _ z)))
+  draw-none h = rw h (undrawn _ (λ t f e. went (byte_at s c) _ _ no_err e (λ _ _ z. no_err _ z)))
 
-  pub draw-refused : {y : NodeStep} {f : Refusal} → (depth ≡ 0 → ⊥) → y ≡ node_at s v c → y ≡ Refused f → Drawn k (tree_at s v depth c) p q last
-  unfolding tree_at node_then
+  pub draw-refused : {y : Read Node} {f : Refusal} → (depth ≡ 0 → ⊥) → y ≡ node_at s v c → y ≡ Err f → Drawn k (tree_at s v depth c) p q last
+  unfolding tree_at go_on
   draw-refused {y} {f} h a b = by-depth depth h
     where
       by-depth : (n : ℕ) → (n ≡ 0 → ⊥) → Drawn k (tree_at s v n c) p q last
       by-depth zero h = absurd (h refl)
-      by-depth (suc n) h = rw (sym a ∙ b) (undrawn _ (λ t g z. no-tree _ z))
+      by-depth (suc n) h = rw (sym a ∙ b) (undrawn _ (λ t g z. no_err _ z))
 
-  pub draw-node : {y : NodeStep} {n : Node} {next : Cursor} → (depth ≡ 0 → ⊥) → y ≡ node_at s v c → y ≡ Got n next →
+  pub draw-node : {y : Read Node} {n : Node} {next : Cursor} → (depth ≡ 0 → ⊥) → y ≡ node_at s v c → y ≡ Ok (n, next) →
       Drawn k (grow s v n (tree_at s v (depth - 1)) next) p q last → Drawn k (tree_at s v depth c) p q last
-  unfolding tree_at node_then
+  unfolding tree_at go_on
   draw-node {y} {n} {next} h a b u = by-depth depth h u
     where
       by-depth : (j : ℕ) → (j ≡ 0 → ⊥) → Drawn k (grow s v n (tree_at s v (j - 1)) next) p q last → Drawn k (tree_at s v j c) p q last
@@ -64,10 +57,10 @@ module _ (k : ℕ) (s : List ℕ) (v depth : ℕ) (c : Cursor) {p q : Printer} {
       by-depth (suc j) h u = rw (sym a ∙ b) (rw sub-one at u)
 
 -- what is printed of node n, where `read` is how its parts are read
-abbrev Draws : Rule → Node → (Cursor → trees.Got Constraint) → Cursor → Printer → Printer → Cursor → Type 0
+abbrev Draws : Rule → Node → (Cursor → Read Constraint) → Cursor → Printer → Printer → Cursor → Type 0
 Draws r n read c p q last = Drawn r.clause (grow r.bytes.now r.variables n read c) p q last
 
-module _ (r : Rule) (n : Node) (read : Cursor → trees.Got Constraint) (c : Cursor) {p q : Printer} {last : Cursor} where
+module _ (r : Rule) (n : Node) (read : Cursor → Read Constraint) (c : Cursor) {p q : Printer} {last : Cursor} where
   pub draw-true : n ≡ nodes.True → Wrote p q (bytes "true") → last ≡ c → Draws r n read c p q last
   unfolding grow constraint onto
   draw-true h u e = rw h (drawn truth c e (record { text = u }))
@@ -85,9 +78,9 @@ module _ (r : Rule) (n : Node) (read : Cursor → trees.Got Constraint) (c : Cur
   draw-remains {m} h u e = rw h (drawn (remainder (sum_of r.bytes.now r.variables m.sum.at) m.d m.r) c e u)
 
   pub draw-not : {a b : Printer} {end : Cursor} → n ≡ nodes.Not → Wrote p a (bytes "(not ") → Drawn r.clause (read c) a b end → Wrote b q (bytes ")") → last ≡ end → Draws r n read c p q last
-  unfolding grow constraint onto
+  unfolding grow go_on constraint onto
   draw-not h u x z e = rw h (record {
-    holds = λ t' c' y. then-went (read c) _ y (λ t i y₁ y₂.
+    holds = λ t' c' y. went (read c) _ _ no_err y (λ (t, i) y₁ y₂.
         let (shown, ends) = x.holds t i y₁ in
         (drawn (not t) i (e ∙ ends) (record { text = join u (one shown z) })).holds t' c' y₂);
   })
@@ -95,10 +88,10 @@ module _ (r : Rule) (n : Node) (read : Cursor → trees.Got Constraint) (c : Cur
   -- two parts under the word that joins them
   module _ {a : Printer} (j : Constraint → Constraint → Constraint) (head : List ℕ)
       (says : (t u : Constraint) → constraint r.clause (j t u) ≡ list (word head & constraint r.clause t & constraint r.clause u & end)) where
-    draw-two : Wrote p a (40 ∷ head) → DrawnTwo r.clause read c a q last → Drawn r.clause (then (read c) (λ t i. then (read i) (λ u. got (j t u)))) p q last
-    unfolding onto
+    draw-two : Wrote p a (40 ∷ head) → DrawnTwo r.clause read c a q last → Drawn r.clause (joined j read c) p q last
+    unfolding go_on onto
     draw-two u x = record {
-      holds = λ t' c' y. then-went (read c) _ y (λ t i y₁ y₂. then-went (read i) _ y₂ (λ t₂ i₂ y₃ y₄.
+      holds = λ t' c' y. went (read c) _ _ no_err y (λ (t, i) y₁ y₂. went (read i) _ _ no_err y₂ (λ (t₂, i₂) y₃ y₄.
           let (shown, ends) = x.holds t t₂ i i₂ y₁ y₃ in
           (drawn (j t t₂) i₂ ends (rw (says t t₂) (record { text = join u shown }))).holds t' c' y₄));
     }
@@ -114,7 +107,7 @@ module _ (r : Rule) (n : Node) (read : Cursor → trees.Got Constraint) (c : Cur
 pub ruleset draws = (draw-none, draw-refused, draw-node, draw-true, draw-compare, draw-remains, draw-not, draw-and, draw-or)
 
 -- two parts, each where the one before it ended
-pub drawn-two : (k : ℕ) (read : Cursor → trees.Got Constraint) (c : Cursor) {p₀ p₁ p₂ p₃ p₄ p₅ : Printer} {mid last : Cursor} →
+pub drawn-two : (k : ℕ) (read : Cursor → Read Constraint) (c : Cursor) {p₀ p₁ p₂ p₃ p₄ p₅ : Printer} {mid last : Cursor} →
     Wrote p₀ p₁ (bytes " ") → Drawn k (read c) p₁ p₂ mid → Wrote p₂ p₃ (bytes " ") → Drawn k (read mid) p₃ p₄ last →
     Wrote p₄ p₅ (bytes ")") → DrawnTwo k read c p₀ p₅ last
 unfolding onto

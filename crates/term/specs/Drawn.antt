@@ -1,12 +1,13 @@
 -- What printing a constraint leaves.
-use Rattle.std.specs.Prelude.{◌≡◌, List, [], ◌∷◌, ℕ}
+use Rattle.std.specs.Prelude.{◌≡◌, List, [], ◌∷◌, ℕ, Ok}
 use Rattle.meaning.specs.Constraint.{Constraint}
 use Rattle.sexp.specs.Sexp.{Sexp, end, ◌&◌, spaced, w}
 use Rattle.cursor.specs.declared.Cursor.{Cursor}
 use Rattle.cursor.specs.declared.Comparison.{Comparison}
 use Rattle.cursor.specs.declared.Comparison.TheVariants.{AtMost, Equal}
 use Rattle.cursor.specs.declared.Remains.{Remains}
-use Rattle.cursor.specs.Tree.{Got, got, sum_of}
+use Rattle.cursor.specs.Steps.{Read}
+use Rattle.cursor.specs.Tree.{sum_of}
 use Rattle.put.specs.declared.Printer.{Printer}
 use Rattle.put.specs.Shows.{Wrote, Shows}
 use Rattle.term.specs.declared.Rule.{Rule}
@@ -29,10 +30,10 @@ abbrev pub zero_of : Rule → ℕ → List ℕ
 zero_of r p = spaced (sum_in r p & w "0" & end) (41 ∷ [])
 
 -- if a constraint is read, it is printed, and reading goes on where it ends
-pub record Drawn (k : ℕ) (y : Got Constraint) (p q : Printer) (next : Cursor) : Type 0 where
-  pub holds : (t : Constraint) (c : Cursor) → y ≡ got t c → Shows p q (constraint k t) × (next ≡ c)
+pub record Drawn (k : ℕ) (y : Read Constraint) (p q : Printer) (next : Cursor) : Type 0 where
+  pub holds : (t : Constraint) (c : Cursor) → y ≡ Ok (t, c) → Shows p q (constraint k t) × (next ≡ c)
 
 -- if two are read, one after the other, they are printed, with the bracket that closes what they stand in
-pub record DrawnTwo (k : ℕ) (read : Cursor → Got Constraint) (c : Cursor) (p q : Printer) (next : Cursor) : Type 0 where
-  pub holds : (t u : Constraint) (f g : Cursor) → read c ≡ got t f → read f ≡ got u g →
+pub record DrawnTwo (k : ℕ) (read : Cursor → Read Constraint) (c : Cursor) (p q : Printer) (next : Cursor) : Type 0 where
+  pub holds : (t u : Constraint) (f g : Cursor) → read c ≡ Ok (t, f) → read f ≡ Ok (u, g) →
       Wrote p q (spaced (constraint k t & constraint k u & end) (41 ∷ [])) × (next ≡ g)

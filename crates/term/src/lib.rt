@@ -15,7 +15,7 @@ ghost use Rattle.script.specs.Terms as term;
 ghost use Rattle.term.specs.Name.{name_of, is_after};
 ghost use Rattle.term.specs.Drawn.{sum_in, zero_of, compared_of, remains_of, Drawn, DrawnTwo};
 
-use cursor::{Comparison, Cursor, Node, NodeStep, Remains};
+use cursor::{Comparison, Cursor, Node, Remains};
 use put::Printer;
 
 // A relation's flag, one of its places, or one of a clause's variables.
@@ -182,7 +182,7 @@ impl Rule<'_> {
         if depth == 0 {
             return c;
         }
-        let NodeStep::Got(n, next) = c.node(self.bytes, self.variables) else {
+        let Ok((n, next)) = c.node(self.bytes, self.variables) else {
             return c;
         };
         match n {

@@ -7,7 +7,6 @@ use Rattle.meaning.specs.Book.{place_window}
 use Rattle.cursor.specs.declared.Clause.{Clause}
 use Rattle.cursor.specs.Meaning.{clause_in}
 use Rattle.book.specs.declared.Header.{Header}
-use Rattle.book.specs.declared.Reading.TheVariants as readings
 use Rattle.book.specs.Read.{read}
 use Rattle.book.specs.Meaning.{book_in}
 use Rattle.book.specs.Joined.{Held}
@@ -19,6 +18,7 @@ use Rattle.script.specs.Names.{place_name}
 use Rattle.script.specs.Terms.{limits}
 use Rattle.script.specs.Lines.{input_line, input_lines, denied, clause_part_of}
 use Rattle.text.specs.Reply.{clause_of}
+use Rattle.std.specs.Prelude.{Ok, Err}
 
 -- ---- loops over the relations
 
@@ -27,7 +27,7 @@ module _ (s : List ℕ) (h : Header) where
   unfoldable pub limits_at : ℕ → ℕ → Sexps
   limits_at r i = limits (place_window (book_in s h) r i) (place_name r i)
 
-  pub denied-are : read s ≡ readings.Good h → each h.relations denied ≡ each (length (book_in s h).arities) denied
+  pub denied-are : read s ≡ Ok h → each h.relations denied ≡ each (length (book_in s h).arities) denied
   denied-are good = ap (λ (m : ℕ). each m denied) (sym (relations-are s h good))
 
 -- ---- loops over the clauses

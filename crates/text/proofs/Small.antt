@@ -24,7 +24,6 @@ use Rattle.cursor.specs.Inverse.{Keeps, tree-by, pick-by}
 use Rattle.cursor.specs.Sound.{IsTree, Sound}
 use Rattle.cursor.specs.Meaning.{atom_in, body_in, tree_of, tree_in, clause_in}
 use Rattle.book.specs.declared.Header.{Header}
-use Rattle.book.specs.declared.Reading.TheVariants.{Good}
 use Rattle.book.specs.Read.{read}
 use Rattle.book.specs.Meaning.{book_in}
 use Rattle.book.specs.Joined.{record-read, held, count-is}
@@ -35,6 +34,7 @@ use Rattle.put.specs.Room.{top}
 use Rattle.script.specs.Text.{text}
 use Rattle.script.specs.Size.{Short, SmallWindow, SmallSum, SmallAtom, SmallBody, SmallClause, SmallBook, Bound, truth-size, at_most_size, equal-size, remainder-size, not-size, and-size, or-size, text-size}
 use Rattle.term.proofs.Laws.{coefficient-at, coefficients-count}
+use Rattle.std.specs.Prelude.{Ok}
 
 -- every element is a byte
 abbrev Bytes : List ℕ → Type 0
@@ -126,7 +126,7 @@ module _ (s : List ℕ) (bytes : Bytes s) where
 
 -- ---- the book
 
-module _ (s : List ℕ) (h : Header) (bytes : Bytes s) (good : read s ≡ Good h) where
+module _ (s : List ℕ) (h : Header) (bytes : Bytes s) (good : read s ≡ Ok h) where
   window-small : SmallWindow (record { lo = h.lo; hi = h.hi })
   window-small =
       let t = read-trailed s h good in

@@ -4,9 +4,8 @@ use mathlib.Core.List.{List, [], ◌++◌}
 use Prim.Native.Nat.{ℕ, ◌≤◌, ◌<◌}
 use native.Mathlib.Omega.{arith}
 use lib.ListN.{length}
-use Rattle.reply.specs.declared.Answer as code
-use Rattle.reply.specs.declared.Answer.TheVariants.{Done, Refused}
-use Rattle.reply.specs.Answer.{ok, refuse, says}
+use Rattle.std.specs.Prelude.{Ok, Err}
+use Rattle.reply.specs.Answer.{ok, refuse, says, Outcome}
 use Rattle.reply.specs.Room.{written, Leaves, written-wrote}
 use Rattle.reply.proofs.Room.{written-needs}
 use Rattle.put.specs.Room.{paste, sat, top}
@@ -23,11 +22,11 @@ module _ (t d : List ℕ) (small : length t ≤ top) {e : List ℕ} {m : ℕ} (w
   room-size : length (e ++ d) ≡ length d
   room-size = ap (λ (x : List ℕ). length (x ++ d)) nothing
 
-  pub prints-short : {x : code.Answer} → length (e ++ d) < m → x ≡ Refused (refuse 9 m) → Leaves (written ok t d) x (e ++ d)
+  pub prints-short : {x : Outcome} → length (e ++ d) < m → x ≡ Err (refuse 9 m) → Leaves (written ok t d) x (e ++ d)
   unfolding says
   prints-short l q = rw (q, written-needs t d 0 (omega (arith, measured, room-size)), measured, nothing) (record { tells = refl; room = refl })
 
-  pub prints-written : {g : List ℕ} → m ≤ length (e ++ d) → g ≡ paste (e ++ d) 0 t → Leaves (written ok t d) (Done m) g
+  pub prints-written : {g : List ℕ} → m ≤ length (e ++ d) → g ≡ paste (e ++ d) 0 t → Leaves (written ok t d) (Ok m) g
   unfolding says
   prints-written l v =
       let k : length t ≤ length d = omega (arith, measured, room-size) in

@@ -16,11 +16,8 @@ use Rattle.lists.specs.Trace.{sum, cut, all_rows, first_out_rows, width, size, f
 use Rattle.lists.specs.Due.{walk_due, walk-due-all}
 use Rattle.reply.specs.Among.{need-ok, told-done}
 use Rattle.reply.specs.declared.Refusal.{Refusal}
-use Rattle.reply.specs.declared.Answer.{Answer}
-use Rattle.reply.specs.declared.Answer.TheVariants.{Done, Refused}
-use Rattle.reply.specs.Answer.{refuse, told}
+use Rattle.reply.specs.Answer.{refuse, told, Outcome}
 use Rattle.book.specs.declared.Header.{Header}
-use Rattle.book.specs.declared.Reading.TheVariants as readings
 use Rattle.book.specs.Read.{read}
 use Rattle.book.specs.Meaning.{book_in}
 use Rattle.book.specs.Arities.{relations-are}
@@ -30,13 +27,14 @@ use Rattle.state.specs.Laws.{front-replicate, bits-length}
 use Rattle.state.proofs.Shape.{size_is}
 use Rattle.state.proofs.Difference.{diff-all}
 use Rattle.state.proofs.Rows.{rows_all}
+use Rattle.std.specs.Prelude.{Ok, Err}
 
-module _ (s : List ℕ) (h : Header) (l : List ℤ) (more : ℕ) (good : read s ≡ readings.Good h) (z : Sized (book_in s h) flags more) where
-  pub first_short : {x : Answer} → length l < more → x ≡ Refused (refuse 13 0) → x ≡ told (judge_first (book_in s h) flags l)
+module _ (s : List ℕ) (h : Header) (l : List ℤ) (more : ℕ) (good : read s ≡ Ok h) (z : Sized (book_in s h) flags more) where
+  pub first_short : {x : Outcome} → length l < more → x ≡ Err (refuse 13 0) → x ≡ told (judge_first (book_in s h) flags l)
   unfolding judge_first
   first_short k e = need-gt 13 0 _ (size (book_in s h) flags) (length l) (rw (← z.is) k) e
 
-  pub first-long : {y : Answer} {k : ℕ} → y ≡ told (judge_first (book_in s h) flags l) → y ≡ Done k → more ≤ length l
+  pub first-long : {y : Outcome} {k : ℕ} → y ≡ told (judge_first (book_in s h) flags l) → y ≡ Ok k → more ≤ length l
   unfolding judge_first
   first-long p q = rw z.is (leb→le (size (book_in s h) flags) (length l) ((need-ok _ _ _ _).0 (told-done _ (sym p ∙ q))).0)
 
@@ -54,11 +52,11 @@ module _ (s : List ℕ) (h : Header) (l : List ℤ) (more : ℕ) (good : read s 
         let a : 0 + n ≡ n = omega arith in
         ap (leb n) p ∙ rw (bits-length n (replicate 16 false), a) at e ∙ (λ j. eq_vals (take (sym wide j) l) (none-set j))
 
-    pub first-set : {x : Answer} → d < n → x ≡ Refused (refuse 18 d) → x ≡ told (judge_first (book_in s h) flags l)
+    pub first-set : {x : Outcome} → d < n → x ≡ Err (refuse 18 d) → x ≡ told (judge_first (book_in s h) flags l)
     unfolding judge_first
     first-set q e =
         need-le 13 0 _ (size (book_in s h) flags) (length l) (rw (← z.is) long)
-        (need-no 18 _ _ _ same (lt-leb _ _ q) (e ∙ ap (λ (j : ℕ). Refused (refuse 18 j)) (p ∙ ap (first_diff 0 l) none-set)))
+        (need-no 18 _ _ _ same (lt-leb _ _ q) (e ∙ ap (λ (j : ℕ). Err (refuse 18 j)) (p ∙ ap (first_diff 0 l) none-set)))
 
     -- o is the first place outside its window
     module _ {o : ℕ} (unset : n ≤ d) (out : o ≡ first_out_rows (place_window (book_in s h)) n (cut (book_in s h).arities (drop n l))) where
@@ -72,14 +70,14 @@ module _ (s : List ℕ) (h : Header) (l : List ℤ) (more : ℕ) (good : read s 
           ∙ rw a at (rows_all (place_window (book_in s h)) (book_in s h).arities (drop n l) n (rw length-drop (omega (arith, z.is, size_is s h good))))
           ∙ ap (λ (j : ℕ). all_rows (place_window (book_in s h)) (cut (book_in s h).arities (drop j l))) (sym wide)
 
-      pub first-outside : {x : Answer} → o < more → x ≡ Refused (refuse 14 o) → x ≡ told (judge_first (book_in s h) flags l)
+      pub first-outside : {x : Outcome} → o < more → x ≡ Err (refuse 14 o) → x ≡ told (judge_first (book_in s h) flags l)
       unfolding judge_first
       first-outside q e =
           need-le 13 0 _ (size (book_in s h) flags) (length l) (rw (← z.is) long)
           (need-yes 18 _ _ _ same (le-leb _ _ unset)
-          (need-no 14 _ _ _ inside-all (lt-leb _ _ q) (e ∙ ap (λ (j : ℕ). Refused (refuse 14 j)) places)))
+          (need-no 14 _ _ _ inside-all (lt-leb _ _ q) (e ∙ ap (λ (j : ℕ). Err (refuse 14 j)) places)))
 
-      pub first_good : {x : Answer} → more ≤ o → x ≡ Done 0 → x ≡ told (judge_first (book_in s h) flags l)
+      pub first_good : {x : Outcome} → more ≤ o → x ≡ Ok 0 → x ≡ told (judge_first (book_in s h) flags l)
       unfolding judge_first
       first_good q e =
           need-le 13 0 _ (size (book_in s h) flags) (length l) (rw (← z.is) long)
@@ -88,18 +86,18 @@ module _ (s : List ℕ) (h : Header) (l : List ℤ) (more : ℕ) (good : read s 
 
 -- ---- then the steps
 
-module _ (s : List ℕ) (h : Header) (f : Fact) (l : List ℤ) {x y : Answer} (p : y ≡ told (judge_first (book_in s h) flags l)) where
-  pub whole-stop : {g : Refusal} → y ≡ Refused g → x ≡ Refused g → x ≡ told (check_walk (book_in s h) flags f l)
+module _ (s : List ℕ) (h : Header) (f : Fact) (l : List ℤ) {x y : Outcome} (p : y ≡ told (judge_first (book_in s h) flags l)) where
+  pub whole-stop : {g : Refusal} → y ≡ Err g → x ≡ Err g → x ≡ told (check_walk (book_in s h) flags f l)
   whole-stop q e = rw (walk-due-all (book_in s h) flags f l) (then-stop _ _ p q e)
 
-  pub whole-on : {more k : ℕ} → Sized (book_in s h) flags more → y ≡ Done k → x ≡ told (walk_due (book_in s h) flags f l more (first_of (book_in s h) flags l)) → x ≡ told (check_walk (book_in s h) flags f l)
+  pub whole-on : {more k : ℕ} → Sized (book_in s h) flags more → y ≡ Ok k → x ≡ told (walk_due (book_in s h) flags f l more (first_of (book_in s h) flags l)) → x ≡ told (check_walk (book_in s h) flags f l)
   whole-on z q e = rw (walk-due-all (book_in s h) flags f l) (then-on _ _ p q (rw z.is at e))
 
 pub ruleset wholes = (whole-stop, whole-on)
 
 -- ---- the goal that was judged
 
-module _ (s : List ℕ) (h : Header) (r : ℕ) (vs : List ℤ) {y : Answer} {k : ℕ} (good : read s ≡ readings.Good h) (p : y ≡ told (judge_goal (book_in s h) r vs)) (q : y ≡ Done k) where
+module _ (s : List ℕ) (h : Header) (r : ℕ) (vs : List ℤ) {y : Outcome} {k : ℕ} (good : read s ≡ Ok h) (p : y ≡ told (judge_goal (book_in s h) r vs)) (q : y ≡ Ok k) where
   pub goal-below : r < h.relations
   unfolding judge_goal
   goal-below =

@@ -12,9 +12,7 @@ use lib.IntN.{ℤ, pos}
 use borrow.Author.Tests.{le-leb, lt-leb}
 use Rattle.meaning.specs.Book.{Book, Fact, body, head}
 use Rattle.meaning.specs.State.{Control, State, write, flags}
-use Rattle.reply.specs.declared.Answer.{Answer}
-use Rattle.reply.specs.declared.Answer.TheVariants.{Done, Refused}
-use Rattle.reply.specs.Answer.{ok, number, need, and_then, refuse, told}
+use Rattle.reply.specs.Answer.{ok, number, need, and_then, refuse, told, Outcome}
 use Rattle.lists.specs.Compare.{eq_vals, first_diff}
 use Rattle.lists.specs.Instance.{clause_number, clause_at, step_at, judge}
 use Rattle.lists.specs.Trace.{size, state_numbers, has, meets, judge_move, first_of}
@@ -23,7 +21,6 @@ use Rattle.lists.specs.Enabled.{refusal_place, enabled-number, enabled-zero, ena
 use Rattle.lists.specs.Due.{walk_due, walk-due-none}
 use Rattle.lists.proofs.Due.{walk-due-more}
 use Rattle.book.specs.declared.Header.{Header}
-use Rattle.book.specs.declared.Reading.TheVariants.{Good}
 use Rattle.book.specs.Read.{read}
 use Rattle.book.specs.Meaning.{book_in}
 use Rattle.book.specs.Joined.{count-is}
@@ -38,15 +35,16 @@ use Rattle.state.specs.Laws.{state-put, state-many, state-first}
 use Rattle.state.proofs.Shape.{relations-few, arities-few, arities-small}
 use Rattle.state.proofs.Difference.{diff-all}
 use Rattle.trace.specs.Step.{state_in, enabled, next_state, ends}
+use Rattle.std.specs.Prelude.{Ok, Err}
 
 -- ---- the end
 
-module _ (b : Book) (C : Control) (σ : State C) (f : Fact) (n : ℕ) {x : Answer} {r : Bool} where
-  pub end-met : r ≡ has b C f σ → r ≡ true → x ≡ Done 0 → x ≡ told (ends b C σ f n)
+module _ (b : Book) (C : Control) (σ : State C) (f : Fact) (n : ℕ) {x : Outcome} {r : Bool} where
+  pub end-met : r ≡ has b C f σ → r ≡ true → x ≡ Ok 0 → x ≡ told (ends b C σ f n)
   unfolding ends
   end-met p q e = need-yes 17 n _ _ p q (ends-well e)
 
-  pub end-missed : r ≡ has b C f σ → r ≡ false → x ≡ Refused (refuse 17 n) → x ≡ told (ends b C σ f n)
+  pub end-missed : r ≡ has b C f σ → r ≡ false → x ≡ Err (refuse 17 n) → x ≡ told (ends b C σ f n)
   unfolding ends
   end-missed p q e = need-no 17 n _ _ p q e
 
@@ -61,7 +59,7 @@ module _ (b : Book) (C : Control) (f : Fact) (l : List ℤ) (i : ℕ) (σ : Stat
   abbrev rest : List ℤ
   rest = drop (i + 1) l
 
-  pub due-end : {x : Answer} → i ≤ length l → length l ≤ i → x ≡ told (ends b C σ f (length l)) → x ≡ told (walk_due b C f l i σ)
+  pub due-end : {x : Outcome} → i ≤ length l → length l ≤ i → x ≡ told (ends b C σ f (length l)) → x ≡ told (walk_due b C f l i σ)
   unfolding ends
   due-end a c e =
       let z : i ≡ length l = omega arith in
@@ -75,7 +73,7 @@ module _ (b : Book) (C : Control) (f : Fact) (l : List ℤ) (i : ℕ) (σ : Stat
 
   module _ (lt : i < length l) {n : ℕ} (judged : n ≡ number (enabled b C clause rest i σ)) where
     -- the step is refused
-    pub due-stop : {x : Answer} → n ≢ 0 → x ≡ Refused (refuse n (refusal_place b clause rest i n)) → x ≡ told (walk_due b C f l i σ)
+    pub due-stop : {x : Outcome} → n ≢ 0 → x ≡ Err (refuse n (refusal_place b clause rest i n)) → x ≡ told (walk_due b C f l i σ)
     unfolding enabled and_then told
     due-stop stop e =
         rw (walk-due-more b C f l i σ lt, two-parts _ refl, enabled-refused b clause (size b C) rest i (meets b C (body b (step_at b clause rest)) σ) n (sym judged) stop) e
@@ -91,11 +89,11 @@ module _ (b : Book) (C : Control) (f : Fact) (l : List ℤ) (i : ℕ) (σ : Stat
       compared : leb (j + size b C) d ≡ eq_vals (take (size b C) (drop j l)) (state_numbers b C τ)
       compared = rw (q, ← many) (diff-all j (drop j l) (state_numbers b C τ) (rw length-drop (omega (arith, many))))
 
-      pub due-differs : {x : Answer} {more : ℕ} → more ≡ size b C → d < j + more → x ≡ Refused (refuse 19 d) → x ≡ told (walk_due b C f l i σ)
+      pub due-differs : {x : Outcome} {more : ℕ} → more ≡ size b C → d < j + more → x ≡ Err (refuse 19 d) → x ≡ told (walk_due b C f l i σ)
       unfolding next_state and_then need told
-      due-differs z k e = rw (opened, sym compared ∙ lt-leb _ _ (rw z at k)) (e ∙ ap (λ (m : ℕ). Refused (refuse 19 m)) q)
+      due-differs z k e = rw (opened, sym compared ∙ lt-leb _ _ (rw z at k)) (e ∙ ap (λ (m : ℕ). Err (refuse 19 m)) q)
 
-      pub due-on : {x : Answer} {more : ℕ} → more ≡ size b C → j + more ≤ d → x ≡ told (walk_due b C f l (j + more) τ) → x ≡ told (walk_due b C f l i σ)
+      pub due-on : {x : Outcome} {more : ℕ} → more ≡ size b C → j + more ≤ d → x ≡ told (walk_due b C f l (j + more) τ) → x ≡ told (walk_due b C f l i σ)
       unfolding next_state and_then need
       due-on z k e = rw (opened, sym compared ∙ le-leb _ _ (rw z at k)) (rw z at e)
 
@@ -204,7 +202,7 @@ unfolding size
 state-numbers s h fs vs = state-many (book_in s h).arities fs vs (book_in s h)
 
 -- the first state, as the code has it
-pub state-start : (s : List ℕ) (h : Header) (l : List ℤ) (n : ℕ) (us : List (List ℤ)) → read s ≡ Good h → n ≡ h.relations → size (book_in s h) flags ≤ length l
+pub state-start : (s : List ℕ) (h : Header) (l : List ℤ) (n : ℕ) (us : List (List ℤ)) → read s ≡ Ok h → n ≡ h.relations → size (book_in s h) flags ≤ length l
     → us ≡ first_rows (book_in s h).arities (drop n l) → state_in s h (replicate 16 false) us ≡ first_of (book_in s h) flags l
 state-start s h l n us good k long e =
     let here : us ≡ first_rows (book_in s h).arities (drop (length (book_in s h).arities) l) =

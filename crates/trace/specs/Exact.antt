@@ -1,17 +1,15 @@
 -- The check accepts exactly the traces that reach the goal in the book that the bytes hold.
-use Rattle.std.specs.Prelude.{ℕ, ◌≡◌, ◌↔◌, List, ℤ}
+use Rattle.std.specs.Prelude.{ℕ, ◌≡◌, ◌↔◌, List, ℤ, Ok}
 use Rattle.std.proofs.Common.{sym, ◌∙◌}
 use Rattle.meaning.specs.Book.{Book}
 use Rattle.meaning.specs.State.{flags}
 use Rattle.meaning.specs.Laws.{flags-laws}
-use Rattle.reply.specs.Answer.{ok, says-done, Answers}
+use Rattle.reply.specs.Answer.{ok, says-done, Answers, Outcome}
 use Rattle.lists.specs.Trace.{check_trace}
 use Rattle.lists.specs.Walk.{Trace, check_trace-exact}
 use Rattle.book.specs.Answer as books
 use Rattle.encode.specs.Stands.{Bytes}
 use Rattle.encode.specs.Exact.{accepted-is-written}
-use Rattle.reply.specs.declared.Answer.{Answer}
-use Rattle.reply.specs.declared.Answer.TheVariants.{Done}
 use Rattle.book.specs.OnBook.{on-ok}
 use Rattle.trace.specs.Answer.{answer}
 
@@ -26,7 +24,7 @@ module _ (s : List ℕ) (bytes : Bytes s) (l : List ℤ) (r : ℕ) (vals : List 
   of-book b q = check_trace-exact b flags flags-laws (accepted-is-written s bytes b q).1 r vals l
 
   -- of the reply x that keeps the check's promise
-  pub exact : (x : Answer) → Answers (answer s l r vals) x → (x ≡ Done 0) ↔ Reached s l r vals
+  pub exact : (x : Outcome) → Answers (answer s l r vals) x → (x ≡ Ok 0) ↔ Reached s l r vals
   unfolding answer
   exact x p =
       let said = says-done x 0 in

@@ -10,8 +10,8 @@ use lib.IntN.{ℤ}
 use lib.Dec.{eqb}
 use Rattle.meaning.specs.Constraint.{Constraint, holds}
 use Rattle.meaning.specs.Limits.{depth}
-use Rattle.cursor.specs.Steps.{pick}
-use Rattle.cursor.specs.Tree.{Got}
+use Rattle.cursor.specs.Steps.{pick, Read}
+
 use Rattle.cursor.specs.Meaning.{tree_of, tree_in}
 use Rattle.cursor.specs.Sound.{IsTree}
 use Rattle.truth.specs.declared.Leaf.{Leaf}
@@ -97,7 +97,7 @@ waited-tree s v xs p w = record {
     past = w.end.at;
     stood = tree-stands s v p w;
     deep = omega (arith, tree-deep s v p w);
-    waits = last (ap (λ (y : Got Constraint). holds xs (tree_of y)) (sym w.reads));
+    waits = last (ap (λ (y : Read Constraint). holds xs (tree_of y)) (sym w.reads));
   };
 }
 
@@ -203,6 +203,6 @@ module _ (s : List ℕ) (v p : ℕ) (w : IsTree s v p) where
 
     pub low-is : (xs : List ℤ) {l : Leaf} → Judged s v p (get_or s p 0) xs l → l.met ≡ holds xs (tree_in s v p)
     unfolding tree_in tree_of
-    low-is xs {l} j = by-leaf (λ t _. l.met ≡ holds xs t) (λ _. j.is) ∙ ap (λ (y : Got Constraint). holds xs (tree_of y)) (sym w.reads)
+    low-is xs {l} j = by-leaf (λ t _. l.met ≡ holds xs t) (λ _. j.is) ∙ ap (λ (y : Read Constraint). holds xs (tree_of y)) (sym w.reads)
 
 pub ruleset waiting = (waited-tree, waited-turned, waited-joined)

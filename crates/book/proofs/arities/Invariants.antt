@@ -1,9 +1,7 @@
-use Rattle.std.proofs.Common.{◌≡◌}
+use Rattle.std.proofs.Common.{◌≡◌, ◌-◌, ◌≤◌}
 use Rattle.book.specs.Read.{arities_at}
 use Rattle.book.proofs.arities.Given as goal
 
-abbrev pub invariant-loop-k : goal.invariant-loop-k
-invariant-loop-k l = arities_at l.k l.s l.q l.here ≡ arities_at l.initial.k l.s l.q l.initial.here
-
-abbrev pub decreases-loop-k : goal.decreases-loop-k
-decreases-loop-k l = l.k
+-- what is due from here is what was due in all
+abbrev pub invariant-loop : goal.invariant-loop
+invariant-loop l = (l.counter ≤ l.count) × (arities_at (l.count - l.counter) l.s l.q l.here ≡ arities_at l.count l.s l.q l.fn.c)

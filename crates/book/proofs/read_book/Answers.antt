@@ -1,27 +1,31 @@
+use Rattle.std.proofs.Common.{rules}
+use Rattle.reply.specs.Then.{go_on}
 use Rattle.book.specs.Read.{read}
 use Rattle.book.specs.Answer.{answers}
-use Rattle.book.proofs.Laws.{ways, fronts}
-use Rattle.book.proofs.Good.{goods}
+use Rattle.book.proofs.Laws.{front_length}
+use Rattle.book.proofs.Good.{good-relations, good_start, good-index}
 use Rattle.book.proofs.read_book.Goals as goal
 
 pub slice_bounds-arities-end : goal.slice_bounds-arities-end
-slice_bounds-arities-end c = search (fronts, goods)
+slice_bounds-arities-end c = front_length _ _ (good_start _ _ c.in_ok-h.ensures)
 
 pub clauses-requires : goal.clauses-requires
-clauses-requires c = search (fronts, goods)
+clauses-requires c =
+    let e = c.in_ok-h.ensures in
+    record { n_le_start = good-relations _ _ e; start_in_bounds = good_start _ _ e; count_in_bounds = good-index _ _ e }
 
-pub returns-in-Refused : goal.returns-in-Refused
-unfolding read
-returns-in-Refused c = answers _ _ (search ways depth 14)
+pub returns-in_err-h : goal.returns-in_err-h
+unfolding read go_on
+returns-in_err-h c = answers _ _ (search rules)
 
-pub returns-in-Refused-arities : goal.returns-in-Refused-arities
-unfolding read
-returns-in-Refused-arities c = answers _ _ (search ways depth 14)
+pub returns-in_err-c : goal.returns-in_err-c
+unfolding read go_on
+returns-in_err-c c = answers _ _ (search rules)
 
-pub returns-in-Refused-clauses : goal.returns-in-Refused-clauses
-unfolding read
-returns-in-Refused-clauses c = answers _ _ (search ways depth 14)
+pub returns-in_err-clauses : goal.returns-in_err-clauses
+unfolding read go_on
+returns-in_err-clauses c = answers _ _ (search rules)
 
-pub returns-in-Moved-clauses : goal.returns-in-Moved-clauses
-unfolding read
-returns-in-Moved-clauses c = answers _ _ (search ways depth 14)
+pub returns : goal.returns
+unfolding read go_on
+returns c = answers _ _ (search rules)

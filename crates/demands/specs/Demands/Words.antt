@@ -1,7 +1,6 @@
 -- The words of the demands: where each is defined, and the calls by name.
-use Rattle.std.specs.Prelude.{ℕ, ◌≡◌, List, [], ◌∷◌, T, ℤ}
-use Rattle.reply.specs.declared.Answer as code
-use Rattle.reply.specs.Answer.{says, Answers}
+use Rattle.std.specs.Prelude.{ℕ, ◌≡◌, List, [], ◌∷◌, T, ℤ, Ok, Err}
+use Rattle.reply.specs.Answer.{says, Answers, Outcome}
 use Rattle.reply.specs.Among.{has}
 use Rattle.reply.specs.Room.{Due, Leaves}
 use Rattle.book.specs.Answer as books
@@ -45,12 +44,9 @@ pub use Rattle.sexp.specs.Parse.{parse}
 -- what a call answers: done with the length written (`ok`: with nothing), or refused with number and place; and what a success does to a room
 pub use Rattle.reply.specs.Answer.{Answer, done, refused, ok, number, place}
 pub use Rattle.reply.specs.Room.{Front}
--- the code's own replies, with their cases (`Done`, `Refused`, `Good`); a refusal is `refuse number place`
+-- the code's own replies, with their cases (`Ok`, `Err`, `Ok`); a refusal is `refuse number place`
 pub use Rattle.reply.specs.Answer.{refuse}
-pub use Rattle.reply.specs.declared.Answer.TheVariants.{Done, Refused}
 pub use Rattle.book.specs.declared.Header.{Header}
-pub use Rattle.book.specs.declared.Reading.{Reading}
-pub use Rattle.book.specs.declared.Reading.TheVariants.{Good}
 pub use Rattle.book.specs.Joined.{Held}
 -- the model check's reply, and what it says: its answer, count, clause and values
 pub use Rattle.model.specs.declared.Reply.{Reply}
@@ -58,6 +54,7 @@ pub use Rattle.model.specs.Reply.{told}
 pub use Rattle.models.specs.Answer.{number_of, plain}
 -- the promise of ruahmitz_constraint: it returns the length r, and writes the start q
 pub use Rattle.kit.specs.Promises.{Hands}
+use Rattle.book.specs.Read.{Reading}
 
 -- ---- what document 01 says of the bytes s of a book
 
@@ -86,11 +83,11 @@ abbrev pub ConstraintOf : (m : Lent) (k : ℕ) (x : Lent) → Type 0
 ConstraintOf m k x = x ≡ handed m k
 
 -- x = derivation::check(s, l, g)
-abbrev pub CheckDerivation : (s : List ℕ) (l : List ℤ) (g : Fact) (x : code.Answer) → Type 0
+abbrev pub CheckDerivation : (s : List ℕ) (l : List ℤ) (g : Fact) (x : Outcome) → Type 0
 CheckDerivation s l g x = Answers (derivation.answer s l g.rel g.vals) x
 
 -- x = trace::check(s, l, g)
-abbrev pub CheckTrace : (s : List ℕ) (l : List ℤ) (g : Fact) (x : code.Answer) → Type 0
+abbrev pub CheckTrace : (s : List ℕ) (l : List ℤ) (g : Fact) (x : Outcome) → Type 0
 CheckTrace s l g x = Answers (trace.answer s l g.rel g.vals) x
 
 -- x = model::check(s, m)
@@ -98,23 +95,23 @@ abbrev pub CheckModel : (s m : List ℕ) (x : Reply) → Type 0
 CheckModel s m x = Replies s m x
 
 -- x = convert::to_trace(s, l, g, d)
-abbrev pub ToTrace : (s : List ℕ) (l : List ℤ) (g : Fact) (d : List ℤ) (x : code.Answer) (e : List ℤ) → Type 0
+abbrev pub ToTrace : (s : List ℕ) (l : List ℤ) (g : Fact) (d : List ℤ) (x : Outcome) (e : List ℤ) → Type 0
 ToTrace s l g d x e = Leaves (to_trace_due s l g.rel g.vals d) x e
 
 -- x = convert::to_derivation(s, l, g, d)
-abbrev pub ToDerivation : (s : List ℕ) (l : List ℤ) (g : Fact) (d : List ℤ) (x : code.Answer) (e : List ℤ) → Type 0
+abbrev pub ToDerivation : (s : List ℕ) (l : List ℤ) (g : Fact) (d : List ℤ) (x : Outcome) (e : List ℤ) → Type 0
 ToDerivation s l g d x e = Leaves (to_derivation_due s l g.rel g.vals d) x e
 
 -- x = text::print(s, d)
-abbrev pub Print : (s d : List ℕ) (x : code.Answer) (e : List ℕ) → Type 0
+abbrev pub Print : (s d : List ℕ) (x : Outcome) (e : List ℕ) → Type 0
 Print s d x e = Leaves (print_due s d) x e
 
--- the check's reply is `Done 0`
+-- the check's reply is `Ok 0`
 abbrev pub IsDerivation : (s : List ℕ) (l : List ℤ) (g : Fact) → Type 0
-IsDerivation s l g = CheckDerivation s l g (Done 0)
+IsDerivation s l g = CheckDerivation s l g (Ok 0)
 
 abbrev pub IsTrace : (s : List ℕ) (l : List ℤ) (g : Fact) → Type 0
-IsTrace s l g = CheckTrace s l g (Done 0)
+IsTrace s l g = CheckTrace s l g (Ok 0)
 
 -- ---- the calls that answer by number
 
@@ -139,7 +136,7 @@ pair a = (number a, place a)
 -- a check that answers `a`
 abbrev pub answering : (a : List ℕ → Answer) (numbers : List ℕ) → Call
 answering a ns = record {
-  Reply = code.Answer;
+  Reply = Outcome;
   Item = ⊥;
   Keeps = λ s d x e. Answers (a s) x;
   answer = says;
@@ -152,7 +149,7 @@ answering a ns = record {
 -- a call that leaves `y` in the room d
 abbrev pub filling : {A : Type 0} (y : List ℕ → List A → Due A) (numbers : List ℕ) → Call
 filling {A} y ns = record {
-  Reply = code.Answer;
+  Reply = Outcome;
   Item = A;
   Keeps = λ s d x e. Leaves (y s d) x e;
   answer = says;

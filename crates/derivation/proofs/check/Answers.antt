@@ -1,20 +1,25 @@
+use Rattle.std.proofs.Common.{refl}
 use Rattle.reply.specs.Answer.{answers}
-use Rattle.book.proofs.Calls.{book-good, calls}
+use Rattle.asked.proofs.Judge.{handed}
+use Rattle.book.proofs.Calls.{means, book-stop, book-on}
 use Rattle.derivation.specs.Answer.{answer}
 use Rattle.derivation.proofs.Laws.{plain-stop, check_done}
 use Rattle.derivation.proofs.check.Goals as goal
 
-pub returns-in_default : goal.returns-in_default
+pub returns-in_err-book : goal.returns-in_err-book
 unfolding answer
-returns-in_default c = answers (search calls)
+returns-in_err-book c = answers (book-stop _ _ c.in_err-book.ensures (handed _ c.from_residual.ensures))
 
-pub table_of-table-requires : goal.table_of-table-requires
-table_of-table-requires c = search book-good
-
-pub returns-in-Refused : goal.returns-in-Refused
+pub returns-in_err-check_in : goal.returns-in_err-check_in
 unfolding answer
-returns-in-Refused c = answers (search (calls, plain-stop))
+returns-in_err-check_in c =
+    let (b, r) = c.in_ok-book.ensures in
+    let e = rw (means _ _ c.of.ensures b) at c.check_in.ensures in
+    answers (book-on _ _ r (plain-stop _ _ e c.in_err-check_in.was (handed _ c.from_residual-in_err-check_in.ensures)))
 
-pub returns-in-Done : goal.returns-in-Done
+pub returns : goal.returns
 unfolding answer
-returns-in-Done c = answers (search (calls, check_done))
+returns c =
+    let (b, r) = c.in_ok-book.ensures in
+    let e = rw (means _ _ c.of.ensures b) at c.check_in.ensures in
+    answers (book-on _ _ r (check_done _ _ _ _ _ e c.in_ok-check_in.was refl))

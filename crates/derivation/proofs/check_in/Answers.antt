@@ -1,20 +1,23 @@
-use Rattle.std.proofs.Common.{rules}
 use Rattle.lists.specs.Derivation.{check_derivation}
-use Rattle.asked.proofs.Judge.{goal-full}
-use Rattle.derivation.proofs.Laws.{counting}
+use Rattle.asked.proofs.Judge.{handed, goal-full}
+use Rattle.derivation.proofs.Laws.{counted_stop, counted-on}
 use Rattle.derivation.proofs.check_in.Goals as goal
 
+pub returns-in_err-judged_goal : goal.returns-in_err-judged_goal
+unfolding check_derivation
+returns-in_err-judged_goal c = counted_stop _ _ _ c.judged_goal.ensures c.in_err-judged_goal.was (handed _ c.from_residual.ensures)
+
+pub returns-in_err-judged_length : goal.returns-in_err-judged_length
+unfolding check_derivation
+returns-in_err-judged_length c =
+    counted-on _ _ _ c.judged_goal.ensures c.in_ok-judged_goal.was
+    (counted_stop _ _ _ c.judged_length.ensures c.in_err-judged_length.was (handed _ c.from_residual-in_err-judged_length.ensures))
+
 pub walk-requires : goal.walk-requires
-walk-requires c = record { tabled = search rules; values_len = search goal-full }
+walk-requires c = goal-full _ _ _ c.judged_goal.ensures c.in_ok-judged_goal.was
 
-pub returns-in-Refused : goal.returns-in-Refused
+pub returns : goal.returns
 unfolding check_derivation
-returns-in-Refused c = search counting
-
-pub returns-in-Refused-judged_length : goal.returns-in-Refused-judged_length
-unfolding check_derivation
-returns-in-Refused-judged_length c = search counting
-
-pub returns-in-Done-judged_length : goal.returns-in-Done-judged_length
-unfolding check_derivation
-returns-in-Done-judged_length c = search counting
+returns c =
+    counted-on _ _ _ c.judged_goal.ensures c.in_ok-judged_goal.was
+    (counted-on _ _ _ c.judged_length.ensures c.in_ok-judged_length.was c.walk.ensures)

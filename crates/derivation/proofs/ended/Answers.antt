@@ -1,28 +1,27 @@
-use Rattle.std.proofs.Common.{arith, refl}
-use Rattle.derivation.proofs.Laws.{goal-none, goal-other, goal-same, goal-there}
+use Rattle.derivation.specs.Step.{Stands}
+use Rattle.book.specs.Held.{meant}
+use Rattle.derivation.proofs.Laws.{stands-below, some-stands, goal-none, goal-other, goal-same, goal-there}
 use Rattle.derivation.proofs.ended.Goals as goal
+use Rattle.derivation.proofs.ended.Goals.{In-Some}
 
-pub returns-then-h-last : goal.returns-then-h-last
-returns-then-h-last c =
-    goal-none c.requires.tabled c.args.list.now c.args.last c.args.since c.args.relation c.args.values.now c.if-h-last.true refl
+last : (c : In-Some) → Stands (meant c.args.table.now.book) c.args.list.now c.in-Some.step
+last c = some-stands _ c.in-Some.is c.requires.last
 
-pub cell-requires : goal.cell-requires
-cell-requires c = let p = c.requires in (omega (arith, p.tabled.few), omega arith)
+pub row-requires : goal.row-requires
+row-requires c = stands-below _ _ c.args.table.now.book.accepted (last (goal.at.row-requires c).In-Some)
 
-pub cell-p-requires : goal.cell-p-requires
-cell-p-requires c = let p = c.requires in (omega (arith, p.tabled.few), omega arith)
+pub returns-in_default : goal.returns-in_default
+returns-in_default c = rw c.in_default.is (goal-none _ _ _ _ _)
+
+pub returns-then-head-relation : goal.returns-then-head-relation
+returns-then-head-relation c = rw c.in-Some.is (goal-other _ _ c.args.list.now _ _ _ c.row.ensures c.if-head-relation.true)
 
 pub values_are-requires : goal.values_are-requires
 values_are-requires c =
-    let b = c.if-h-last.false in
-    goal-there c.requires.tabled c.args.list.now c.args.last c.args.since c.args.relation c.args.values.now b c.cell.ensures.0
-    c.if-cell-relation.true c.requires.values_len c.cell-p.ensures.0 (c.requires.stood b)
+    goal-there _ _ c.args.list.now c.args.relation c.args.values.now _ c.row.ensures c.if-head-relation.false c.requires.values_len
+    (last (goal.at.values_are-requires c).In-Some)
 
-pub returns-then-cell-relation : goal.returns-then-cell-relation
-returns-then-cell-relation c =
-    goal-same c.requires.tabled c.args.list.now c.args.last c.args.since c.args.relation c.args.values.now c.if-h-last.false c.cell.ensures.0
-    c.if-cell-relation.true c.requires.values_len c.cell-p.ensures.0 c.values_are.ensures
-
-pub returns-else-cell-relation : goal.returns-else-cell-relation
-returns-else-cell-relation c =
-    goal-other c.requires.tabled c.args.list.now c.args.last c.args.since c.args.relation c.args.values.now c.if-h-last.false c.cell.ensures.0 c.if-cell-relation.false refl
+pub returns : goal.returns
+returns c =
+    rw c.in-Some.is
+    (goal-same _ _ c.args.list.now _ _ _ c.row.ensures c.if-head-relation.false c.requires.values_len c.values_are.ensures)

@@ -1,38 +1,34 @@
-use Rattle.std.proofs.Common.{arith, refl}
-use Rattle.derivation.proofs.Laws.{met-first, met-same, met-other, both-there}
+use Rattle.derivation.specs.Step.{Stands}
+use Rattle.book.specs.Held.{meant}
+use Rattle.derivation.proofs.Laws.{stands-below, some-stands, met-first, met-none, met-same, met-other, both-there}
 use Rattle.derivation.proofs.met.Goals as goal
+use Rattle.derivation.proofs.met.Goals.{In-Some}
 
-pub cell-r-requires : goal.cell-r-requires
-cell-r-requires c = let p = c.requires in (omega (arith, p.tabled.few, p.k_lt_count.0), omega arith)
+before : (c : In-Some) → Stands (meant c.args.table.now.book) c.args.list.now c.in-Some.before
+before c = some-stands _ c.in-Some.is c.requires.last
 
-pub returns-then-h-last : goal.returns-then-h-last
-returns-then-h-last c =
-    met-first c.requires.tabled c.args.list.now c.requires.k_lt_count.0 c.args.«from» c.args.last c.args.since c.cell-r.ensures.0 c.if-h-last.true refl
+pub row-row-requires : goal.row-row-requires
+row-row-requires c = stands-below _ _ c.args.table.now.book.accepted c.requires.step
 
-pub cell-requires : goal.cell-requires
-cell-requires c = let p = c.requires in (omega (arith, p.tabled.few), omega arith)
+pub row-requires : goal.row-requires
+row-requires c = stands-below _ _ c.args.table.now.book.accepted (before (goal.at.row-requires c).In-Some)
 
-pub cell-requires-then-r-cell : goal.cell-requires-then-r-cell
-cell-requires-then-r-cell c = let p = c.requires in (omega (arith, p.tabled.few, p.k_lt_count.0), omega arith)
+pub returns-in_default : goal.returns-in_default
+returns-in_default c = rw c.in_default.is (met-first c.args.list.now _ c.row-row.ensures c.is_none.ensures)
 
-pub cell-requires-then-r-cell-2 : goal.cell-requires-then-r-cell-2
-cell-requires-then-r-cell-2 c = let p = c.requires in (omega (arith, p.tabled.few), omega arith)
+pub returns-in_default-body : goal.returns-in_default-body
+returns-in_default-body c = rw c.in-Some.is (met-none c.args.list.now _ c.row-row.ensures _ c.in_default-body.is)
 
-pub cell-requires-then-r-cell-3 : goal.cell-requires-then-r-cell-3
-cell-requires-then-r-cell-3 c = let p = c.requires in (omega (arith, p.tabled.few, p.k_lt_count.0), omega arith)
+pub returns-then-body-earlier : goal.returns-then-body-earlier
+returns-then-body-earlier c =
+    rw c.in-Some.is (met-other c.args.list.now _ c.row-row.ensures _ c.row.ensures c.in-Some-body.is c.if-body-earlier.true)
 
 pub same_values-requires : goal.same_values-requires
 same_values-requires c =
-    let b = c.if-h-last.false in
-    both-there c.requires.tabled c.args.list.now c.requires.k_lt_count.0 c.args.«from» c.args.last c.args.since c.cell-r.ensures.0 b c.cell.ensures.0
-    c.if-r-cell.true c.cell-then-r-cell.ensures.0 c.cell-then-r-cell-2.ensures.0 c.cell-then-r-cell-3.ensures.0 c.requires.k_lt_count.1 (c.requires.stood b)
+    both-there c.args.list.now _ c.row-row.ensures _ c.row.ensures c.in-Some-body.is c.if-body-earlier.false c.requires.step
+    (before (goal.at.same_values-requires c).In-Some)
 
-pub returns-then-r-cell : goal.returns-then-r-cell
-returns-then-r-cell c =
-    met-same c.requires.tabled c.args.list.now c.requires.k_lt_count.0 c.args.«from» c.args.last c.args.since c.cell-r.ensures.0 c.if-h-last.false c.cell.ensures.0
-    c.if-r-cell.true c.cell-then-r-cell.ensures.0 c.cell-then-r-cell-2.ensures.0 c.cell-then-r-cell-3.ensures.0 c.same_values.ensures
-
-pub returns-else-r-cell : goal.returns-else-r-cell
-returns-else-r-cell c =
-    met-other c.requires.tabled c.args.list.now c.requires.k_lt_count.0 c.args.«from» c.args.last c.args.since c.cell-r.ensures.0 c.if-h-last.false c.cell.ensures.0
-    c.if-r-cell.false refl
+pub returns : goal.returns
+returns c =
+    rw c.in-Some.is
+    (met-same c.args.list.now _ c.row-row.ensures _ c.row.ensures c.in-Some-body.is c.if-body-earlier.false c.same_values.ensures)

@@ -26,17 +26,17 @@ loop-j-preserved c =
     let k = c.loop-j-test.true in
     let w = t.invariant in
     let q = same-as c.same_at.ensures (spot-value l w.1 k c.spot.ensures) (sym (get_or-take a.n a.values.now t.j (pos 0) k)) in
-    (omega arith, w.1, w.2, sym (vals-same _ _ t.j (omega (arith, values_length l w.1)) (omega (arith, length-take-le a.n a.values.now w.2)) q c.if-same_at.true) ∙ w.3)
+    (omega arith, w.1, w.2, sym (vals-same _ _ t.j (omega (arith, values_length l w.1)) (omega (arith, length-take-le a.n a.values.now w.2)) q c.if-not-same_at.false) ∙ w.3)
 
-pub returns-else-same_at : goal.returns-else-same_at
-returns-else-same_at c =
+pub returns-then-not-same_at : goal.returns-then-not-same_at
+returns-then-not-same_at c =
     let a = c.args in
     let l = a.list.now in
     let t = c.loop-j in
     let k = c.loop-j-test.true in
     let w = t.invariant in
     let q = same-as c.same_at.ensures (spot-value l w.1 k c.spot.ensures) (sym (get_or-take a.n a.values.now t.j (pos 0) k)) in
-    sym (vals-differ _ _ t.j (omega (arith, values_length l w.1)) (omega (arith, length-take-le a.n a.values.now w.2)) q c.if-same_at.false) ∙ w.3
+    sym (vals-differ _ _ t.j (omega (arith, values_length l w.1)) (omega (arith, length-take-le a.n a.values.now w.2)) q c.if-not-same_at.true) ∙ w.3
 
 pub returns : goal.returns
 returns c =

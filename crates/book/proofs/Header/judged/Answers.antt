@@ -6,6 +6,6 @@ pub returns-then-self : goal.returns-then-self
 unfolding headed
 returns-then-self c = search ways depth 14
 
-pub returns-else-self : goal.returns-else-self
+pub returns : goal.returns
 unfolding headed
-returns-else-self c = search ways depth 14
+returns c = search ways depth 14

@@ -1,35 +1,33 @@
-use Rattle.cursor.proofs.Laws.{ways}
+use Rattle.std.proofs.Common.{rules}
+use Rattle.reply.specs.Then.{go_on}
+use Rattle.cursor.specs.Walk.{follow}
+use Rattle.cursor.proofs.Laws.{no-level, level}
 use Rattle.cursor.proofs.Cursor.+constraint.Goals as goal
 
-pub returns-in-Refused : goal.returns-in-Refused
-returns-in-Refused t c = search ways depth 12
+pub returns-in_err-byte : goal.returns-in_err-byte
+unfolding follow go_on
+returns-in_err-byte t c = rw (no-level _ _ _ _ c.if-depth-eq0.true) (search rules)
 
-pub returns-in-Got : goal.returns-in-Got
-returns-in-Got t c = search ways depth 12
+pub returns-then-depth-eq0 : goal.returns-then-depth-eq0
+unfolding follow go_on
+returns-then-depth-eq0 t c = rw (no-level _ _ _ _ c.if-depth-eq0.true) (search rules)
 
-pub returns-in-Refused-node : goal.returns-in-Refused-node
-returns-in-Refused-node t c = search ways depth 12
+pub returns-in_err-n : goal.returns-in_err-n
+unfolding follow go_on
+returns-in_err-n t c = rw (level _ _ _ _ c.if-depth-eq0.false) (search rules)
+
+pub returns-in_err-c-in-And : goal.returns-in_err-c-in-And
+unfolding follow go_on
+returns-in_err-c-in-And t c = rw (level _ _ _ _ c.if-depth-eq0.false) (search rules)
 
 pub returns-in-True : goal.returns-in-True
-returns-in-True t c = search ways depth 12
-
-pub returns-in-Compare : goal.returns-in-Compare
-returns-in-Compare t c = search ways depth 12
-
-pub returns-in-Remainder : goal.returns-in-Remainder
-returns-in-Remainder t c = search ways depth 12
+unfolding follow go_on
+returns-in-True t c = rw (level _ _ _ _ c.if-depth-eq0.false) (search rules)
 
 pub returns-in-Not : goal.returns-in-Not
-returns-in-Not t c = search ways depth 12
+unfolding follow go_on
+returns-in-Not t c = rw (level _ _ _ _ c.if-depth-eq0.false) (search rules)
 
-pub returns-in-Refused-constraint : goal.returns-in-Refused-constraint
-returns-in-Refused-constraint t c = search ways depth 12
-
-pub returns-in-Moved : goal.returns-in-Moved
-returns-in-Moved t c = search ways depth 12
-
-pub returns-in-Refused-constraint-2 : goal.returns-in-Refused-constraint-2
-returns-in-Refused-constraint-2 t c = search ways depth 12
-
-pub returns-in-Moved-constraint : goal.returns-in-Moved-constraint
-returns-in-Moved-constraint t c = search ways depth 12
+pub returns-in_ok-c-in-And : goal.returns-in_ok-c-in-And
+unfolding follow go_on
+returns-in_ok-c-in-And t c = rw (level _ _ _ _ c.if-depth-eq0.false) (search rules)

@@ -1,9 +1,7 @@
-use Rattle.std.proofs.Common.{◌≡◌}
+use Rattle.std.proofs.Common.{◌≡◌, ◌-◌, ◌≤◌}
 use Rattle.cursor.specs.Clause.{arguments_at}
 use Rattle.cursor.proofs.Cursor.arguments.Given as goal
 
-abbrev pub invariant-loop-k : goal.invariant-loop-k
-invariant-loop-k l = arguments_at l.k l.s l.v l.c ≡ arguments_at l.initial.k l.s l.v l.initial.c
-
-abbrev pub decreases-loop-k : goal.decreases-loop-k
-decreases-loop-k l = l.k
+-- what is due from here is what was due in all
+abbrev pub invariant-loop : goal.invariant-loop
+invariant-loop l = (l.counter ≤ l.count) × (arguments_at (l.count - l.counter) l.s l.v l.c ≡ arguments_at l.count l.s l.v l.fn.self)
