@@ -17,5 +17,5 @@ loop-i-preserved c = (omega arith, each_more _ _ c.loop-i.invariant.1 c.same.ens
 pub returns : goal.returns
 unfolding lines.atom_items atom_of name_of onto
 returns c =
-    let arguments = relist (arguments-are _ _ _ _ _ _ _ c.arity_of-n.ensures.0) (each_all _ (omega arith) (omega arith) c.loop-i.invariant.1) in
+    let arguments = relist (arguments-are _ _ _ _ _ _ _ c.arity.ensures.0) (each_all _ (omega arith) (omega arith) c.loop-i.invariant.1) in
     record { text = join c.put.ensures (join c.print_when.ensures arguments.text) }

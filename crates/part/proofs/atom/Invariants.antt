@@ -6,4 +6,4 @@ use Rattle.part.proofs.Laws.{argument_in}
 use Rattle.part.proofs.atom.Given as goal
 
 abbrev pub invariant-loop-i : goal.invariant-loop-i
-invariant-loop-i l = (l.i ≤ length l.x-items) × Lists l.initial.out l.out (each l.i (argument_in (is_after l.when) l.k l.r l.x-items))
+invariant-loop-i l = (l.i ≤ length l.arguments) × Lists l.initial.out l.out (each l.i (argument_in (is_after l.when) l.k l.r l.arguments))

@@ -11,10 +11,10 @@ loop-r-init c = (omega arith, each_none _)
 pub loop-r-preserved : goal.loop-r-preserved
 unfolding by_arity
 loop-r-preserved c =
-    (omega arith, each_more _ _ c.loop-r.invariant.1 (relist (ap (lines.frame_but _ _) c.arity_of.ensures.0) c.frame_but.ensures))
+    (omega arith, each_more _ _ c.loop-r.invariant.1 (relist (ap (lines.frame_but _ _) c.arity.ensures.0) c.frame_but.ensures))
 
 pub returns : goal.returns
 unfolding by_arity
 returns c =
-    let e = relations-are _ _ c.requires in
+    let e = relations-are _ _ c.args.book.now.accepted in
     each_all _ (omega arith) (omega arith) c.loop-r.invariant.1

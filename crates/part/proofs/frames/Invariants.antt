@@ -6,4 +6,4 @@ use Rattle.part.proofs.Laws.{by_arity}
 use Rattle.part.proofs.frames.Given as goal
 
 abbrev pub invariant-loop-r : goal.invariant-loop-r
-invariant-loop-r l = (l.r ≤ l.n) × Lists l.initial.out l.out (each l.r (by_arity l.book l.h (lines.frame_but l.f)))
+invariant-loop-r l = (l.r ≤ l.r-end) × Lists l.initial.out l.out (each l.r (by_arity l.book (lines.frame_but l.h)))
