@@ -4,9 +4,7 @@
 ghost use Rattle.std.specs.Prelude.{◌≡◌, ◌<◌, length};
 ghost use Rattle.reply.specs.Room.{Leaves};
 ghost use Rattle.meaning.specs.Book.{none_such, place_window};
-ghost use Rattle.book.specs.declared.Reading.TheVariants.{Good};
-ghost use Rattle.book.specs.Read.{read};
-ghost use Rattle.book.specs.Meaning.{book_in};
+ghost use Rattle.book.specs.Held.{meant};
 ghost use Rattle.sexp.specs.Bytes as said;
 ghost use Rattle.sexp.specs.Sexp.{end, ◌&◌, each, over};
 ghost use Rattle.put.specs.Room.{paste, sat};
@@ -18,6 +16,7 @@ ghost use Rattle.term.specs.Name.{name_of, is_after};
 ghost use Rattle.text.specs.Sort.{sort_of};
 ghost use Rattle.text.specs.Reply.{print_due};
 
+use book::Book;
 use put::Printer;
 use term::{Name, When};
 
@@ -77,13 +76,11 @@ fn relation(out: &mut Printer, r: usize, m: usize)
 }
 
 // The lines of the relations.
-fn relations(out: &mut Printer, book: &[u8], h: book::Header)
-    requires { read book.now ≡ Good h }
-    ensures { Lines out.old out.new (over 0 (book_in book.now h).arities lines.relation_lines) }
+fn relations(out: &mut Printer, book: &Book)
+    ensures { Lines out.old out.new (over 0 (meant book.now).arities lines.relation_lines) }
 {
-    let n = h.relations as usize;
-    for r in 0..n {
-        relation(out, r, book::arity_of(book, h, r));
+    for r in 0..book.relations() {
+        relation(out, r, book.arity(r));
     }
 }
 
@@ -97,13 +94,11 @@ fn inputs(out: &mut Printer, k: usize, v: usize)
 }
 
 // The lines of the variables of each clause.
-fn all_inputs(out: &mut Printer, book: &[u8], h: book::Header)
-    requires { read book.now ≡ Good h }
-    ensures { Lines out.old out.new (over none_such (book_in book.now h).clauses lines.input_lines) }
+fn all_inputs(out: &mut Printer, book: &Book)
+    ensures { Lines out.old out.new (over none_such (meant book.now).clauses lines.input_lines) }
 {
-    let n = h.count;
-    for k in 0..n {
-        inputs(out, k, book::record(book, h, k).variables as usize);
+    for k in 0..book.header.count {
+        inputs(out, k, book.record(k).variables as usize);
     }
 }
 
@@ -119,45 +114,40 @@ fn denied(out: &mut Printer, n: usize)
 }
 
 // The limits of the m places of relation r.
-fn limits_of(out: &mut Printer, book: &[u8], h: book::Header, r: usize, m: usize)
-    ensures { Lists out.old out.new (lines.place_limits (place_window (book_in book.now h)) r m) }
+fn limits_of(out: &mut Printer, book: &Book, r: usize, m: usize)
+    ensures { Lists out.old out.new (lines.place_limits (place_window (meant book.now)) r m) }
 {
     for i in 0..m {
-        term::limits(out, Name::Place(r, i), book::place_window(book, h, r, i));
+        term::limits(out, Name::Place(r, i), book.place_window(r, i));
     }
 }
 
 // The limits of the places of the relations.
-fn place_limits(out: &mut Printer, book: &[u8], h: book::Header)
-    requires { read book.now ≡ Good h }
-    ensures { Lists out.old out.new (over 0 (book_in book.now h).arities (lines.place_limits (place_window (book_in book.now h)))) }
+fn place_limits(out: &mut Printer, book: &Book)
+    ensures { Lists out.old out.new (over 0 (meant book.now).arities (lines.place_limits (place_window (meant book.now)))) }
 {
-    let n = h.relations as usize;
-    for r in 0..n {
-        limits_of(out, book, h, r, book::arity_of(book, h, r));
+    for r in 0..book.relations() {
+        limits_of(out, book, r, book.arity(r));
     }
 }
 
 // `init`.
-fn init(out: &mut Printer, book: &[u8], h: book::Header)
-    requires { read book.now ≡ Good h }
-    ensures { Lines out.old out.new (lines.init_line (place_window (book_in book.now h)) (book_in book.now h).arities & end) }
+fn init(out: &mut Printer, book: &Book)
+    ensures { Lines out.old out.new (lines.init_line (place_window (meant book.now)) (meant book.now).arities & end) }
 {
     out.put_all(b"(define-fun init () Bool (! (and true");
-    denied(out, h.relations as usize);
-    place_limits(out, book, h);
+    denied(out, book.relations());
+    place_limits(out, book);
     out.put_all(b") :init true))\n");
 }
 
 // `trans`.
-fn trans(out: &mut Printer, book: &[u8], h: book::Header)
-    requires { read book.now ≡ Good h }
-    ensures { Lines out.old out.new (lines.trans_line (book_in book.now h) & end) }
+fn trans(out: &mut Printer, book: &Book)
+    ensures { Lines out.old out.new (lines.trans_line (meant book.now) & end) }
 {
     out.put_all(b"(define-fun trans () Bool (! (or false false");
-    let n = h.count;
-    for k in 0..n {
-        part::part(out, book, h, k);
+    for k in 0..book.header.count {
+        part::part(out, book, k);
     }
     out.put_all(b") :trans true))\n");
 }
@@ -171,26 +161,24 @@ fn prop(out: &mut Printer, q: usize)
     out.put_all(b") :invar-property 0))\n");
 }
 
-// The whole text of a book that was accepted with the header h.
-fn script(out: &mut Printer, book: &[u8], h: book::Header)
-    requires { read book.now ≡ Good h }
-    ensures { Wrote out.old out.new (text (book_in book.now h)) }
+// The whole text of a book.
+fn script(out: &mut Printer, book: &Book)
+    ensures { Wrote out.old out.new (text (meant book.now)) }
 {
-    relations(out, book, h);
-    all_inputs(out, book, h);
-    init(out, book, h);
-    trans(out, book, h);
-    prop(out, h.query as usize);
+    relations(out, book);
+    all_inputs(out, book);
+    init(out, book);
+    trans(out, book);
+    prop(out, book.header.query as usize);
 }
 
 // The same from the front of the room, and how long it is.
-fn write(room: &mut [u8], book: &[u8], h: book::Header) -> usize
-    requires { read book.now ≡ Good h }
-    ensures size { result ≡ sat (length (text (book_in book.now h))) }
-    ensures room { room.new ≡ paste room.old 0 (text (book_in book.now h)) }
+fn write(room: &mut [u8], book: &Book) -> usize
+    ensures size { result ≡ sat (length (text (meant book.now))) }
+    ensures room { room.new ≡ paste room.old 0 (text (meant book.now)) }
 {
     let mut out = Printer::new(room);
-    script(&mut out, book, h);
+    script(&mut out, book);
     out.at()
 }
 
@@ -198,14 +186,11 @@ fn write(room: &mut [u8], book: &[u8], h: book::Header) -> usize
 pub fn print(book: &[u8], room: &mut [u8]) -> reply::Answer
     ensures { Leaves (print_due book.now room.old) result room.new }
 {
-    let read = book::read_book(book);
-    let book::Reading::Good(h) = read else {
-        return book::refused_by(read);
-    };
-    let need = write(&mut room[..0], book, h);
+    let book = Book::open(book)?;
+    let need = write(&mut room[..0], &book);
     if room.len() < need {
         return reply::refuse(9, need);
     }
-    write(room, book, h);
-    reply::Answer::Done(need)
+    write(room, &book);
+    Ok(need)
 }

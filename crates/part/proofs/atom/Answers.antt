@@ -8,14 +8,14 @@ use Rattle.part.proofs.Laws.{argument_in, arguments-are}
 use Rattle.part.proofs.atom.Goals as goal
 
 pub loop-i-init : goal.loop-i-init
-loop-i-init c = (omega arith, each_none _)
+loop-i-init c = each_none _
 
 pub loop-i-preserved : goal.loop-i-preserved
 unfolding argument_in lines.argument name_of
-loop-i-preserved c = (omega arith, each_more _ _ c.loop-i.invariant.1 c.same.ensures)
+loop-i-preserved c = each_more _ _ c.loop-i.invariant c.same.ensures
 
 pub returns : goal.returns
 unfolding lines.atom_items atom_of name_of onto
 returns c =
-    let arguments = relist (arguments-are _ _ _ _ _ _ _ c.arity.ensures.0) (each_all _ (omega arith) (omega arith) c.loop-i.invariant.1) in
+    let arguments = relist (arguments-are _ _ _ _ _ _ _ c.arity.ensures.0) (each_all _ (omega arith) (omega arith) c.loop-i.invariant) in
     record { text = join c.put.ensures (join c.print_when.ensures arguments.text) }

@@ -7,13 +7,13 @@ use Rattle.term.specs.Name.{name_of}
 use Rattle.part.proofs.frame.Goals as goal
 
 pub loop-i-init : goal.loop-i-init
-loop-i-init c = (omega arith, each_none _)
+loop-i-init c = each_none _
 
 pub loop-i-preserved : goal.loop-i-preserved
 unfolding lines.kept_place name_of in_state
-loop-i-preserved c = (omega arith, each_more _ _ c.loop-i.invariant.1 c.same-in-loop-i.ensures)
+loop-i-preserved c = each_more _ _ c.loop-i.invariant c.same-in-loop-i.ensures
 
 pub returns : goal.returns
 unfolding lines.frame name_of in_state onto
 returns c =
-    record { text = all c.same.ensures (each_all _ (omega arith) (omega arith) c.loop-i.invariant.1).text }
+    record { text = all c.same.ensures (each_all _ (omega arith) (omega arith) c.loop-i.invariant).text }

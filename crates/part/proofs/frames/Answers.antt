@@ -6,15 +6,15 @@ use Rattle.part.proofs.Laws.{by_arity}
 use Rattle.part.proofs.frames.Goals as goal
 
 pub loop-r-init : goal.loop-r-init
-loop-r-init c = (omega arith, each_none _)
+loop-r-init c = each_none _
 
 pub loop-r-preserved : goal.loop-r-preserved
 unfolding by_arity
 loop-r-preserved c =
-    (omega arith, each_more _ _ c.loop-r.invariant.1 (relist (ap (lines.frame_but _ _) c.arity.ensures.0) c.frame_but.ensures))
+    each_more _ _ c.loop-r.invariant (relist (ap (lines.frame_but _ _) c.arity.ensures.0) c.frame_but.ensures)
 
 pub returns : goal.returns
 unfolding by_arity
 returns c =
     let e = relations-are _ _ c.args.book.now.accepted in
-    each_all _ (omega arith) (omega arith) c.loop-r.invariant.1
+    each_all _ (omega arith) (omega arith) c.loop-r.invariant

@@ -6,12 +6,12 @@ use Rattle.term.proofs.Laws.{limits-asked}
 use Rattle.part.proofs.windows.Goals as goal
 
 pub loop-i-init : goal.loop-i-init
-loop-i-init c = (omega arith, each_none _)
+loop-i-init c = each_none _
 
 pub loop-i-preserved : goal.loop-i-preserved
 unfolding lines.input_limits name_of
 loop-i-preserved c =
-    (omega arith, each_more _ _ c.loop-i.invariant.1 (limits-asked _ c.variable_window.ensures c.limits.ensures))
+    each_more _ _ c.loop-i.invariant (limits-asked _ c.variable_window.ensures c.limits.ensures)
 
 pub returns : goal.returns
-returns c = each_all _ (omega arith) (omega arith) c.loop-i.invariant.1
+returns c = each_all _ (omega arith) (omega arith) c.loop-i.invariant

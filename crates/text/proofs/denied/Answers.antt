@@ -6,12 +6,12 @@ use Rattle.term.specs.Name.{name_of}
 use Rattle.text.proofs.denied.Goals as goal
 
 pub loop-r-init : goal.loop-r-init
-loop-r-init c = (omega arith, each_none _)
+loop-r-init c = each_none _
 
 pub loop-r-preserved : goal.loop-r-preserved
 unfolding lines.denied name_of onto
 loop-r-preserved c =
-    (omega arith, each_more _ _ c.loop-r.invariant.1 (record { text = join c.put_all.ensures (join c.print.ensures c.put.ensures) }))
+    each_more _ _ c.loop-r.invariant (record { text = join c.put_all.ensures (join c.print.ensures c.put.ensures) })
 
 pub returns : goal.returns
-returns c = each_all _ (omega arith) (omega arith) c.loop-r.invariant.1
+returns c = each_all _ (omega arith) (omega arith) c.loop-r.invariant

@@ -7,11 +7,11 @@ use Rattle.text.specs.Sort.{sort_of}
 use Rattle.text.proofs.inputs.Goals as goal
 
 pub loop-i-init : goal.loop-i-init
-loop-i-init c = (omega arith, lines_none _)
+loop-i-init c = lines_none _
 
 pub loop-i-preserved : goal.loop-i-preserved
 unfolding lines.input_line name_of sort_of in_state
-loop-i-preserved c = (omega arith, lines_more _ _ c.loop-i.invariant.1 c.declare.ensures)
+loop-i-preserved c = lines_more _ _ c.loop-i.invariant c.declare.ensures
 
 pub returns : goal.returns
-returns c = lines-all _ (omega arith) (omega arith) c.loop-i.invariant.1
+returns c = lines-all _ (omega arith) (omega arith) c.loop-i.invariant

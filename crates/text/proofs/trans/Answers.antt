@@ -7,14 +7,14 @@ use Rattle.text.proofs.Laws.{part_at}
 use Rattle.text.proofs.trans.Goals as goal
 
 pub loop-k-init : goal.loop-k-init
-loop-k-init c = (omega arith, each_none _)
+loop-k-init c = each_none _
 
 pub loop-k-preserved : goal.loop-k-preserved
 unfolding part_at
-loop-k-preserved c = (omega arith, each_more _ _ c.loop-k.invariant.1 c.part.ensures)
+loop-k-preserved c = each_more _ _ c.loop-k.invariant c.part.ensures
 
 pub returns : goal.returns
 unfolding onto lines_onto lines.trans_line part_at
 returns c =
-    let e = count-is _ _ c.requires in
-    record { text = join c.put_all.ensures (all (each_all _ (omega arith) (omega arith) c.loop-k.invariant.1) c.put_all-2.ensures) }
+    let e = count-is _ _ c.args.book.now.accepted in
+    record { text = join c.put_all.ensures (all (each_all _ (omega arith) (omega arith) c.loop-k.invariant) c.put_all-2.ensures) }
