@@ -1,6 +1,7 @@
 -- The laws of measuring and of walking back.
 use mathlib.Core.Path.{◌≡◌, refl, sym, ap, ◌∙◌}
 use mathlib.Core.Logic.{◌≢◌}
+use mathlib.Core.Bool.{Bool, true, false}
 use mathlib.Core.Option.{some}
 use mathlib.Core.List.{List, ◌∷◌, ◌++◌, append_assoc}
 use Prim.Native.Nat.{ℕ, zero, suc, ◌+◌, ◌-◌, ◌*◌, ◌≤◌, ◌<◌}
@@ -9,7 +10,8 @@ use native.Mathlib.Omega.{arith}
 use lib.ListN.{length, get_or, set, take, drop, replicate, length-set, length-append}
 use lib.Seq.{get_or-set_same, get_or-set_other}
 use lib.IntN.{ℤ, pos}
-use borrow.Author.Tests.{eq-eqb, ne_eqb}
+use lib.Dec.{eqb}
+use borrow.Author.Tests.{eqb-true, eqb-false}
 use Rattle.meaning.specs.Book.{Book, Instance}
 use Rattle.meaning.specs.State.{Control}
 use Rattle.lists.specs.Trace.{size}
@@ -17,27 +19,35 @@ use Rattle.lists.specs.Convert.{as_derivation}
 use Rattle.lists.specs.Places.{clause_here, step_here, start, start_first, start-next, numbers-here}
 use Rattle.lists.specs.Back.{relation_of, trace_start, coming, coming-none, coming-first}
 use Rattle.lists.proofs.Back.{coming-all, coming-wrote, coming-other, coming-length}
-use Rattle.cursor.specs.Steps.{pick}
+use Rattle.std.specs.Prelude as code
+use Rattle.std.specs.Option.{option_eq}
+use Rattle.table.specs.declared.Row.{Row}
 use Rattle.book.specs.declared.Header.{Header}
 use Rattle.book.specs.Meaning.{book_in}
-use Rattle.table.specs.Table.{Tabled}
 use Rattle.steps.specs.Put.{Put, put-length, put-from}
 use Rattle.steps.specs.Walk.{Here}
 use Rattle.steps.proofs.Places.{start-add, start-far, start-long, here-at}
 use Rattle.back.specs.declared.Wanted.{Wanted}
-use Rattle.back.specs.Walk.{Trace, body_count, Filled, Kept, Marked}
+use Rattle.back.specs.Walk.{Trace, body_relation, body_count, Filled, Kept, Marked}
 use Rattle.back.specs.Gone.{told, Wrote, Due, Stepped, Left, whole, Gone}
-use Rattle.back.proofs.Places.{told_none, told-some, told-small, Cells, cells_at, trace-start}
+use Rattle.back.proofs.Places.{Cells, trace-start}
 
--- ---- how many numbers a body's derivation has
+-- ---- whether this relation is wanted
 
-pub count_none : (counts : List ℕ) (n : ℕ) → n ≡ 255 → 0 ≡ body_count counts n
-unfolding body_count pick
-count_none counts n e = rw (eq-eqb n 255 e)
+pub wanted-yes : (o : code.Option ℕ) (n : ℕ) → option_eq eqb o (code.Some n) ≡ true → o ≡ code.Some n
+wanted-yes code.None n e = absurd (let z : ⊥ = cc in z)
+wanted-yes (code.Some r) n e = ap code.Some (eqb-true r n e)
 
-pub count-some : (counts : List ℕ) (n : ℕ) → n ≢ 255 → get_or counts n 0 ≡ body_count counts n
-unfolding body_count pick
-count-some counts n e = rw (ne_eqb n 255 e)
+pub wanted-no : (o : code.Option ℕ) (n : ℕ) → option_eq eqb o (code.Some n) ≡ false → o ≢ code.Some n
+wanted-no code.None n e m = let z : ⊥ = cc in z
+wanted-no (code.Some r) n e m = eqb-false r n e (let z : r ≡ n = cc in z)
+
+wanted : (o : code.Option ℕ) (n : ℕ) → Dec (o ≡ code.Some n)
+wanted o n = go (option_eq eqb o (code.Some n)) refl
+  where
+    go : (t : Bool) → option_eq eqb o (code.Some n) ≡ t → Dec (o ≡ code.Some n)
+    go true e = yes (wanted-yes o n e)
+    go false e = no (wanted-no o n e)
 
 -- ---- a trace whose steps are instances
 
@@ -63,47 +73,42 @@ module _ (b : Book) (C : Control) (l : List ℤ) (every : (j : ℕ) → trace_st
   wrote-length j q r e = rw (wrote-part j q r e, length-append) (omega (arith, part_length j q))
 
   -- it did not
-  pub other-same : (j : ℕ) → trace_start b C l j < length l → (n : ℕ) → (clause_here b l (trace_start b C l j)).head.rel ≢ n → coming b C l (told n) (j + 1) ≡ coming b C l (told n) j
-  other-same j q n e = go (ℕ_discrete n 255)
-    where
-      go : Dec (n ≡ 255) → coming b C l (told n) (j + 1) ≡ coming b C l (told n) j
-      go (yes y) = rw (told_none n y) (coming-none b C l (j + 1) ∙ sym (coming-none b C l j))
-      go (no y) = rw (told-some n y) (coming-other b C l j q n e)
+  pub other-same : (j : ℕ) → trace_start b C l j < length l → (o : code.Option ℕ) → o ≢ code.Some (clause_here b l (trace_start b C l j)).head.rel
+      → coming b C l (told o) (j + 1) ≡ coming b C l (told o) j
+  other-same j q code.None e = coming-none b C l (j + 1) ∙ sym (coming-none b C l j)
+  other-same j q (code.Some n) e = coming-other b C l j q n (λ m. e (ap code.Some (sym m)))
 
   -- from the end on, nothing more is coming
-  pub coming-end : (n j k : ℕ) → length l ≤ trace_start b C l j → length l ≤ trace_start b C l k → coming b C l (told n) j ≡ coming b C l (told n) k
-  coming-end n j k p q = go (ℕ_discrete n 255)
-    where
-      go : Dec (n ≡ 255) → coming b C l (told n) j ≡ coming b C l (told n) k
-      go (yes y) = rw (told_none n y) (coming-none b C l j ∙ sym (coming-none b C l k))
-      go (no y) = rw (told-some n y) (coming-all b C l n j p ∙ sym (coming-all b C l n k q))
+  pub coming-end : (o : code.Option ℕ) (j k : ℕ) → length l ≤ trace_start b C l j → length l ≤ trace_start b C l k → coming b C l (told o) j ≡ coming b C l (told o) k
+  coming-end code.None j k p q = coming-none b C l j ∙ sym (coming-none b C l k)
+  coming-end (code.Some n) j k p q = coming-all b C l n j p ∙ sym (coming-all b C l n k q)
 
   -- ---- the walk back
 
-  module _ (j : ℕ) (inside : trace_start b C l j < length l) (small : (clause_here b l (trace_start b C l j)).head.rel < 16) (w : Wanted) (d : List ℤ) (left : Left b C l (j + 1) w d) where
-    own : (clause_here b l (trace_start b C l j)).head.rel ≡ w.relation → told w.relation ≡ some w.relation
-    own e = told-small w.relation (omega arith)
+  module _ (j : ℕ) (inside : trace_start b C l j < length l) (w : Wanted) (d : List ℤ) (left : Left b C l (j + 1) w d) where
+    abbrev wrote : ℕ
+    wrote = (clause_here b l (trace_start b C l j)).head.rel
 
     pub due-of : Due b l (trace_start b C l j) w d
     due-of = record {
       fits = left.fits;
-      some = λ e. omega (arith, rw (own e) at left.at, wrote-length j inside w.relation e);
+      some = λ e. omega (arith, rw e at left.at, wrote-length j inside wrote refl);
     }
 
     pub gone-step : {r : Wanted} {e : List ℤ} → Stepped b l (trace_start b C l j) w d r e → Gone b C l (j + 1) w d j r e
     unfolding whole
-    gone-step {r} {e} y = go (ℕ_discrete (clause_here b l (trace_start b C l j)).head.rel w.relation)
+    gone-step {r} {e} y = go (wanted w.relation wrote)
       where
-        go : Dec ((clause_here b l (trace_start b C l j)).head.rel ≡ w.relation) → Gone b C l (j + 1) w d j r e
+        go : Dec (w.relation ≡ code.Some wrote) → Gone b C l (j + 1) w d j r e
         go (yes q) =
             let (body, p) = y.wrote q in
-            let n : w.at ≡ length (coming b C l (some w.relation) (j + 1)) = rw (own q) at left.at in
+            let n : w.at ≡ length (coming b C l (some wrote) (j + 1)) = rw q at left.at in
             record {
               left = record {
-                at = rw body (omega (arith, n, wrote-length j inside w.relation q, p.from, part_length j inside));
+                at = rw body (omega (arith, n, wrote-length j inside wrote refl, p.from, part_length j inside));
                 fits = omega (arith, left.fits, p.long, p.from);
               };
-              same = rw (own q, body, wrote-part j inside w.relation q, p.room, append_assoc);
+              same = rw (q, body, wrote-part j inside wrote refl, p.room, append_assoc);
               long = p.long;
             }
         go (no q) =
@@ -167,13 +172,10 @@ counted-first b C l z e = record {
   is = λ q h. zeros 16 q ∙ sym (ap length (coming-first b C l (some q)));
 }
 
-body-counted : {b : Book} {C : Control} {l : List ℤ} {counts : List ℕ} {i j : ℕ} (w : Counted b C l counts i j) (n : ℕ) → (n ≢ 255 → n < 16)
-    → body_count counts n ≡ length (coming b C l (told n) j)
-body-counted {b} {C} {l} {counts} {i} {j} w n small = go (ℕ_discrete n 255)
-  where
-    go : Dec (n ≡ 255) → body_count counts n ≡ length (coming b C l (told n) j)
-    go (yes y) = rw (told_none n y) (sym (count_none counts n y) ∙ sym (ap length (coming-none b C l j)))
-    go (no y) = rw (told-some n y) (sym (count-some counts n y) ∙ w.is n (small y))
+body-counted : {b : Book} {C : Control} {l : List ℤ} {counts : List ℕ} {i j : ℕ} (w : Counted b C l counts i j) (o : code.Option ℕ) → ((r : ℕ) → o ≡ code.Some r → r < 16)
+    → body_count counts o ≡ length (coming b C l (told o) j)
+body-counted {b} {C} {l} {counts} {i} {j} w code.None small = sym (ap length (coming-none b C l j))
+body-counted w (code.Some r) small = w.is r (small r refl)
 
 module _ {s : List ℕ} {h : Header} {C : Control} {l : List ℤ} {z : ℕ} (t : Trace s h C l z) where
   every_of : (j : ℕ) → trace_start (book_in s h) C l j < length l → Instance (book_in s h) (step_here (book_in s h) l (trace_start (book_in s h) C l j))
@@ -186,32 +188,45 @@ module _ {s : List ℕ} {h : Header} {C : Control} {l : List ℤ} {z : ℕ} (t :
     pub counted-here : i < length l → Here s h l z i
     counted-here = here_of i n w.at
 
-    module _ (q : i < length l) {v head body : ℕ} (c : Cells (book_in s h) l i v head body) where
+    module _ (q : i < length l) {r : Row} (c : Cells (book_in s h) l i r) where
+      abbrev v : ℕ
+      v = r.variables
+
+      abbrev head : ℕ
+      head = r.head.relation
+
+      abbrev body : code.Option ℕ
+      body = body_relation r
+
       inside : trace_start (book_in s h) C l n < length l
       inside = rw w.at at q
 
-      there : Cells (book_in s h) l (trace_start (book_in s h) C l n) v head body
+      there : Cells (book_in s h) l (trace_start (book_in s h) C l n) r
       there = rw w.at at c
 
-      pub counted-small : body_count counts body ≤ i
-      counted-small = omega (arith, body-counted w body c.body-small, coming-length (book_in s h) C l n (told body), w.at)
+      -- the numbers of its body's derivation, as the code has them
+      module _ {o : code.Option ℕ} {x : ℕ} (y : o ≡ body) (e : x ≡ body_count counts o) where
+        own : x ≡ length (coming (book_in s h) C l (relation_of (clause_here (book_in s h) l (trace_start (book_in s h) C l n)).body) n)
+        own = rw there.body_is at (e ∙ ap (body_count counts) y ∙ body-counted w body c.body-small)
 
-      pub counted-more : {x : ℕ} → x ≡ body_count counts body → Counted (book_in s h) C l (set counts head (x + (1 + v))) (i + (1 + v) + z) (n + 1)
-      counted-more {x} e = record {
-        at = omega (arith, start-next (book_in s h) (size (book_in s h) C) l (size (book_in s h) C) n, w.at, t.size, there.vars);
-        long = length-set counts head (x + (1 + v)) ∙ w.long;
-        is = λ r k. go r k (ℕ_discrete r head);
-      }
-        where
-          go : (r : ℕ) → r < 16 → Dec (r ≡ head) → get_or (set counts head (x + (1 + v))) r 0 ≡ length (coming (book_in s h) C l (some r) (n + 1))
-          go r k (yes y) =
-              let long : head < length counts = omega (arith, c.head_small, w.long) in
-              let own = body-counted w body c.body-small in
-              let all = wrote-length (book_in s h) C l every_of n inside head there.head-is in
-              rw y (get_or-set_same counts head (x + (1 + v)) 0 long ∙ omega (arith, e, rw there.body_is at own, all, there.vars))
-          go r k (no y) =
-              get_or-set_other counts head r (x + (1 + v)) 0 y ∙ w.is r k
-              ∙ sym (ap length (coming-other (book_in s h) C l n inside r (λ m. y (sym m ∙ there.head-is))))
+        pub counted-small : x ≤ i
+        counted-small = omega (arith, own, coming-length (book_in s h) C l n (relation_of (clause_here (book_in s h) l (trace_start (book_in s h) C l n)).body), w.at)
+
+        pub counted-more : Counted (book_in s h) C l (set counts head (x + (1 + v))) (i + (1 + v + z)) (n + 1)
+        counted-more = record {
+          at = omega (arith, start-next (book_in s h) (size (book_in s h) C) l (size (book_in s h) C) n, w.at, t.size, there.vars);
+          long = length-set counts head (x + (1 + v)) ∙ w.long;
+          is = λ q k. go q k (ℕ_discrete q head);
+        }
+          where
+            go : (q : ℕ) → q < 16 → Dec (q ≡ head) → get_or (set counts head (x + (1 + v))) q 0 ≡ length (coming (book_in s h) C l (some q) (n + 1))
+            go q k (yes m) =
+                let long : head < length counts = omega (arith, c.head_small, w.long) in
+                let all = wrote-length (book_in s h) C l every_of n inside head there.head-is in
+                rw m (get_or-set_same counts head (x + (1 + v)) 0 long ∙ omega (arith, own, all, there.vars))
+            go q k (no m) =
+                get_or-set_other counts head q (x + (1 + v)) 0 m ∙ w.is q k
+                ∙ sym (ap length (coming-other (book_in s h) C l n inside q (λ e₁. m (sym e₁ ∙ there.head-is))))
 
     pub counted-all : length l ≤ i → (r : ℕ) → r < 16 → get_or counts r 0 ≡ length (as_derivation (book_in s h) C r l)
     counted-all q r k = w.is r k ∙ ap length (coming-all (book_in s h) C l r n (rw w.at at q))
@@ -223,19 +238,23 @@ wrote-put d e p at n h k w =
     let z : at - n + length p ≡ at = omega arith in
     record { from = z; long = put-length w; room = put-from w ∙ ap (λ (m : ℕ). p ++ drop m d) z }
 
-module _ {b : Book} {l : List ℤ} {i v head body : ℕ} (c : Cells b l i v head body) (w : Wanted) (d : List ℤ) where
-  pub stepped-wrote : (at : ℕ) (e : List ℤ) → head ≡ w.relation → Wrote (take (1 + v) (drop i l)) w.at d at e → Stepped b l i w d (record { relation = body; at = at }) e
-  stepped-wrote at e q p =
-      let z : 1 + v ≡ (clause_here b l i).vars + 1 = omega (arith, c.vars) in
-      record { wrote = λ _. (c.body_is, rw z at p); other = λ m. absurd (m (c.head-is ∙ q)) }
+module _ {b : Book} {l : List ℤ} {i : ℕ} {r : Row} (c : Cells b l i r) (w : Wanted) (d : List ℤ) where
+  same-head : code.Some (clause_here b l i).head.rel ≡ code.Some r.head.relation
+  same-head = ap code.Some c.head-is
 
-  pub stepped-other : head ≢ w.relation → Stepped b l i w d w d
-  stepped-other q = record { wrote = λ m. absurd (q (sym c.head-is ∙ m)); other = λ _. (refl, refl) }
+  pub stepped-wrote : (at : ℕ) (e : List ℤ) {o : code.Option ℕ} → w.relation ≡ code.Some r.head.relation → o ≡ body_relation r
+      → Wrote (take (1 + r.variables) (drop i l)) w.at d at e → Stepped b l i w d (record { relation = o; at = at }) e
+  stepped-wrote at e q y p =
+      let z : 1 + r.variables ≡ (clause_here b l i).vars + 1 = omega (arith, c.vars) in
+      record { wrote = λ _. (ap told y ∙ c.body_is, rw z at p); other = λ m. absurd (m (q ∙ sym same-head)) }
+
+  pub stepped-other : w.relation ≢ code.Some r.head.relation → Stepped b l i w d w d
+  stepped-other q = record { wrote = λ m. absurd (q (m ∙ same-head)); other = λ _. (refl, refl) }
 
 -- what writing its numbers asks
-pub step_fits : {s : List ℕ} {h : Header} {l : List ℤ} {i v head body z : ℕ} (c : Cells (book_in s h) l i v head body) {w : Wanted} {d : List ℤ} → Here s h l z i → Due (book_in s h) l i w d → head ≡ w.relation
-    → (1 + v ≤ w.at) × (w.at ≤ length d) × (i + (1 + v) ≤ length l)
-step_fits c here due q = (omega (arith, c.vars, due.some (c.head-is ∙ q)), due.fits, omega (arith, c.vars, here.whole))
+pub step_fits : {s : List ℕ} {h : Header} {l : List ℤ} {i z : ℕ} {r : Row} (c : Cells (book_in s h) l i r) {w : Wanted} {d : List ℤ} → Here s h l z i → Due (book_in s h) l i w d
+    → w.relation ≡ code.Some r.head.relation → (1 + r.variables ≤ w.at) × (w.at ≤ length d) × (i + (1 + r.variables) ≤ length l)
+step_fits c here due q = (omega (arith, c.vars, due.some (q ∙ ap code.Some (sym c.head-is))), due.fits, omega (arith, c.vars, here.whole))
 
 -- ---- a block's starts
 
@@ -306,8 +325,33 @@ module _ {s : List ℕ} {h : Header} {C : Control} {l : List ℤ} {z : ℕ} (t :
     place k = ap (λ (x : ℕ). start (book_in s h) z l x k) e ∙ sym (start-add (book_in s h) z l z (m * 512) k) ∙ trace-start t (m * 512 + k)
 
     -- the k-th of a block's starts
-    pub block-place : (k : ℕ) → k < r → (get_or block k 0 ≡ trace_start (book_in s h) C l (m * 512 + k)) × (get_or block k 0 < length l)
+    block-place : (k : ℕ) → k < r → (get_or block k 0 ≡ trace_start (book_in s h) C l (m * 512 + k)) × (get_or block k 0 < length l)
     block-place k q = let (p, y) = f.each k q in (p ∙ place k, rw p y)
+
+    -- at the last of k of them
+    module _ (k : ℕ) (some : 0 < k) (few : k ≤ r) where
+      abbrev j : ℕ
+      j = m * 512 + (k - 1)
+
+      next : m * 512 + k ≡ j + 1
+      next = omega (arith, some)
+
+      starts : (get_or block (k - 1) 0 ≡ trace_start (book_in s h) C l j) × (get_or block (k - 1) 0 < length l)
+      starts = block-place (k - 1) (omega (arith, some, few))
+
+      at-step : trace_start (book_in s h) C l j < length l
+      at-step = rw starts.0 at starts.1
+
+      pub block-here : Here s h l z (get_or block (k - 1) 0)
+      block-here = here_of t _ j starts.0 starts.1
+
+      module _ {w : Wanted} {d : List ℤ} where
+        pub block-due : Left (book_in s h) C l (m * 512 + k) w d → Due (book_in s h) l (get_or block (k - 1) 0) w d
+        block-due left = rw starts.0 (due-of (book_in s h) C l (every_of t) j at-step w d (left_at left next))
+
+        pub block-more : {n : ℕ} {v : Wanted} {c : List ℤ} {u : Wanted} {e : List ℤ} → Gone (book_in s h) C l n v c (m * 512 + k) w d
+            → Stepped (book_in s h) l (get_or block (k - 1) 0) w d u e → Gone (book_in s h) C l n v c j u e
+        block-more g y = gone-join (gone_at g next) (gone-step (book_in s h) C l (every_of t) j at-step w d (left_at g.left next) (rw starts.0 at y))
 
     -- the walk back over the block begins
     pub block_start : (w : Wanted) (d : List ℤ) → Left (book_in s h) C l (m * 512 + 512) w d → Gone (book_in s h) C l (m * 512 + 512) w d (m * 512 + r) w d
@@ -322,28 +366,15 @@ module _ {s : List ℕ} {h : Header} {C : Control} {l : List ℤ} {z : ℕ} (t :
         up : trace_start (book_in s h) C l (m * 512 + r) ≤ trace_start (book_in s h) C l (m * 512 + 512)
         up = omega (arith, start-far (book_in s h) z l i t.some r (512 - r), ap (start (book_in s h) z l i) same, place r, place 512)
 
-  module _ {rows : List (List ℕ)} (table : Tabled s h rows) (j i : ℕ) (e : i ≡ trace_start (book_in s h) C l j) (q : i < length l) (w : Wanted) (d : List ℤ) (left : Left (book_in s h) C l (j + 1) w d) where
-    at-step : trace_start (book_in s h) C l j < length l
-    at-step = rw e at q
-
-    small : (clause_here (book_in s h) l (trace_start (book_in s h) C l j)).head.rel < 16
-    small = let c = cells_at table (here_of t i j e q) in rw (← e) (omega (arith, c.head-is, c.head_small))
-
-    pub back-asks : Here s h l z i × Due (book_in s h) l i w d
-    back-asks = (here_of t i j e q, rw e (due-of (book_in s h) C l (every_of t) j at-step small w d left))
-
-    pub back_more : {r : Wanted} {f : List ℤ} → Stepped (book_in s h) l i w d r f → Gone (book_in s h) C l (j + 1) w d j r f
-    back_more y = gone-step (book_in s h) C l (every_of t) j at-step small w d left (rw e at y)
-
-  module _ (marks : List ℕ) (m r n : ℕ) (d : List ℤ) (w : Marked (book_in s h) z l marks m) (small : r < 16) where
-    all-coming : coming (book_in s h) C l (told r) (m * 512) ≡ as_derivation (book_in s h) C r l
-    all-coming = rw (told-small r small) (coming-all (book_in s h) C l r (m * 512) (rw (trace-start t (m * 512)) at w.all))
+  module _ (marks : List ℕ) (m r n : ℕ) (d : List ℤ) (w : Marked (book_in s h) z l marks m) where
+    all-coming : coming (book_in s h) C l (some r) (m * 512) ≡ as_derivation (book_in s h) C r l
+    all-coming = coming-all (book_in s h) C l r (m * 512) (rw (trace-start t (m * 512)) at w.all)
 
     -- the walk back over all begins
-    pub left-first : n ≡ length (as_derivation (book_in s h) C r l) → n ≤ length d → Left (book_in s h) C l (m * 512) (record { relation = r; at = n }) d
+    pub left-first : n ≡ length (as_derivation (book_in s h) C r l) → n ≤ length d → Left (book_in s h) C l (m * 512) (record { relation = code.Some r; at = n }) d
     left-first e k = record { at = rw all-coming e; fits = k }
 
     -- and ends
-    pub all-written : {j : ℕ} {v : Wanted} {e : List ℤ} → Gone (book_in s h) C l (m * 512) (record { relation = r; at = n }) d j v e → j ≡ 0 → e ≡ as_derivation (book_in s h) C r l ++ drop n d
+    pub all-written : {j : ℕ} {v : Wanted} {e : List ℤ} → Gone (book_in s h) C l (m * 512) (record { relation = code.Some r; at = n }) d j v e → j ≡ 0 → e ≡ as_derivation (book_in s h) C r l ++ drop n d
     unfolding whole
     all-written g z = gone-end g z ∙ ap (λ (x : List ℤ). x ++ drop n d) all-coming

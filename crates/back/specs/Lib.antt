@@ -1,2 +1,3 @@
-pub mod Walk
 pub mod Gone
+pub mod Held
+pub mod Walk

@@ -1,11 +1,15 @@
 -- A trace's steps by their places, as the walk over them finds them.
-use Rattle.std.specs.Prelude.{◌≡◌, ◌≢◌, List, ℕ, ◌*◌, ◌≤◌, ◌<◌, length, get_or, eqb, ℤ}
-use Rattle.meaning.specs.Book.{Book}
+use Rattle.std.specs.Prelude.{◌≡◌, ◌≢◌, List, [], ◌∷◌, ℕ, suc, ◌*◌, ◌≤◌, ◌<◌, length, get_or, ℤ, Option, None, Some}
+use Rattle.std.specs.Option.{option_map}
+use Rattle.std.specs.Coded.{×_prop, Unit-prop}
+use Rattle.std.proofs.Props.{props}
+use Rattle.meaning.specs.Book.{Book, Window, Within}
 use Rattle.meaning.specs.State.{Control}
 use Rattle.lists.specs.Trace as traces
 use Rattle.lists.specs.Convert.{as_derivation}
 use Rattle.lists.specs.Places.{start}
-use Rattle.cursor.specs.Steps.{pick}
+use Rattle.table.specs.declared.Seat.{Seat}
+use Rattle.table.specs.declared.Row.{Row}
 use Rattle.book.specs.declared.Header.{Header}
 use Rattle.steps.specs.Walk.{Walk}
 use Rattle.book.specs.Meaning.{book_in}
@@ -18,9 +22,22 @@ pub record Trace (s : List ℕ) (h : Header) (C : Control) (l : List ℤ) (z : �
   pub some : 1 ≤ z
   pub few : length l ≤ 1000000
 
--- how many numbers a body's derivation has, where each relation's are counted; 255 is no body
-unfoldable pub body_count : List ℕ → ℕ → ℕ
-body_count counts body = pick (eqb body 255) 0 (get_or counts body 0)
+within-prop : (w : ℕ → Window) (vs : List ℤ) → IsProp (Within w vs)
+within-prop w [] = Unit-prop
+within-prop w (v ∷ vs) = ×_prop (hlevel props) (within-prop (λ i. w (suc i)) vs)
+
+-- two proofs of it are equal, so that a type may hold one
+pub trace-prop : (s : List ℕ) (h : Header) (C : Control) (l : List ℤ) (z : ℕ) → IsProp (Trace s h C l z)
+trace-prop s h C l z = hlevel (within-prop, props)
+
+-- the relation of a clause's body by its row, if it has one
+abbrev pub body_relation : Row → Option ℕ
+body_relation r = option_map (λ (x : Seat). x.relation) r.body
+
+-- how many numbers a body's derivation has, where each relation's are counted: none for no body
+abbrev pub body_count : List ℕ → Option ℕ → ℕ
+body_count counts None = 0
+body_count counts (Some r) = get_or counts r 0
 
 -- the starts of the steps from place i on: r of them, up to 512
 pub record Filled (b : Book) (z : ℕ) (l : List ℤ) (i : ℕ) (block : List ℕ) (r : ℕ) : Type 0 where

@@ -11,65 +11,43 @@ use std::io::{Read, Write};
 // Twice this number is 0 if it wraps.
 const FAR: usize = 9223372036854775808;
 
-fn print_part<W: Write>(out: &mut W, book: &[u8], k: usize) -> io::Result<()> {
-    console::print_sum(out, book::constraint_of(book, k))
-}
-
 // The parts of the clauses 0 to last, that of a clause far off, and the end of the line.
 fn print_parts<W: Write>(out: &mut W, book: &[u8], last: usize) -> io::Result<()> {
-    let mut k = 0;
-    while k < last {
-        print_part(out, book, k)?;
-        k += 1;
+    for k in 0..=last {
+        console::print_sum(out, book::constraint_of(book, k))?;
     }
-    print_part(out, book, last)?;
-    print_part(out, book, FAR)?;
-    console::write(out, b"\n")
+    console::print_sum(out, book::constraint_of(book, FAR))?;
+    writeln!(out)
 }
 
 fn print_line<W: Write>(out: &mut W, book: &[u8]) -> io::Result<()> {
-    let reading = book::read_book(book);
-    match reading {
+    match book::read_book(book) {
         book::Reading::Good(h) => {
-            console::print_answer(out, 0, 0)?;
+            console::print_answer(out, reply::Answer::Done(0))?;
             print_parts(out, book, h.count)
         }
         book::Reading::Refused(r) => {
-            console::print_answer(out, r.number, r.place)?;
+            console::print_answer(out, reply::Answer::Refused(r))?;
             print_parts(out, book, 0)
         }
     }
 }
 
-// Fills the room with a case and prints its line; false where the input ends before.
-fn fill_and_print<R: Read, W: Write>(
-    input: &mut R,
-    out: &mut W,
-    room: &mut [u8],
-) -> io::Result<bool> {
-    if !console::filled(input, room)? {
-        return Ok(false);
-    }
-    print_line(out, room)?;
-    Ok(true)
-}
-
 // Reads the next case and prints its line; false where there is no whole case left.
 fn run_case<R: Read, W: Write>(input: &mut R, out: &mut W, room: &mut [u8]) -> io::Result<bool> {
-    let n = console::next_length(input)?;
-    if n > room.len() {
+    let Some(book) = console::next_front(input, room)? else {
+        return Ok(false);
+    };
+    if !console::filled(input, book)? {
         return Ok(false);
     }
-    fill_and_print(input, out, &mut room[..n])
+    print_line(out, book)?;
+    Ok(true)
 }
 
 fn main(rt: HostRuntime) -> io::Result<()> {
     let mut input = rt.reader();
     let mut out = io::writer(&rt);
-    let mut space = [0u8; 60001];
-    let mut turns: u32 = 100000;
-    while turns > 0 && run_case(&mut input, &mut out, &mut space)? {
-        turns -= 1;
-    }
-    Ok(())
+    let mut room = [0u8; 60001];
+    console::run_all(|| run_case(&mut input, &mut out, &mut room))
 }

@@ -8,142 +8,71 @@
 // must be printed is worked out by tests/convert_cases.py.
 #![tactic(auto)]
 
-ghost use Rattle.std.specs.Prelude.{◌≤◌, ◌<◌, length};
-
+use console::{Case, Form, Space};
 use std::io;
 use std::io::{Read, Write};
 
-fn print_outcome<W: Write>(out: &mut W, answer: reply::Answer) -> io::Result<()> {
-    match answer {
-        reply::Answer::Done(n) => console::print_answer(out, 0, n),
-        reply::Answer::Refused(r) => console::print_answer(out, r.number, r.place),
-    }
-}
-
 // Fills the room with numbers that tell their position.
 fn fill(room: &mut [i32]) {
-    let mut i = 0;
-    while i < room.len() {
-        room[i] = !((i % 1000) as i32);
-        i += 1;
+    for (i, x) in room.iter_mut().enumerate() {
+        *x = !((i % 1000) as i32);
     }
-}
-
-// The number in two's complement, without sign.
-fn unsigned(n: i32) -> usize
-    ensures { result < 4294967296 }
-{
-    if n < 0 {
-        return 4294967295 - (!n) as usize;
-    }
-    n as usize
 }
 
 // The checksum of what came before, and one number more.
-fn summed(sum: usize, n: i32) -> usize
-    requires { sum < 2147483647 }
-    ensures { result < 2147483647 }
-{
-    (sum * 65537 + unsigned(n)) % 2147483647
+fn summed(sum: u32, n: i32) -> u32 {
+    ((u64::from(sum) * 65537 + u64::from(n.cast_unsigned())) % 2147483647) as u32
 }
 
-fn checksum(room: &[i32]) -> usize {
-    let mut sum = 0;
-    let mut i = 0;
-    while i < room.len() {
-        sum = summed(sum, room[i]);
-        i += 1;
+fn checksum(room: &[i32]) -> u32 {
+    room.iter().fold(0, |sum, n| summed(sum, *n))
+}
+
+// Converts the list to the other form.
+fn convert(form: Form, case: &Case<'_>, room: &mut [i32]) -> reply::Answer {
+    match form {
+        Form::Derivation => convert::to_trace(
+            case.book,
+            case.list,
+            case.relation,
+            case.values,
+            room,
+        ),
+        Form::Trace => convert::to_derivation(
+            case.book,
+            case.list,
+            case.relation,
+            case.values,
+            room,
+        ),
     }
-    sum
 }
 
-fn print_checksum<W: Write>(out: &mut W, room: &[i32]) -> io::Result<()> {
-    console::write(out, b" ")?;
-    console::print(out, checksum(room))?;
-    console::write(out, b"\n")
-}
-
-fn convert_and_print<W: Write>(
-    out: &mut W,
-    call: usize,
-    book: &[u8],
-    list: &[i32],
-    relation: usize,
-    values: &[i32],
-    room: &mut [i32],
-) -> io::Result<()> {
-    if call == 1 {
-        return print_outcome(out, convert::to_trace(book, list, relation, values, room));
-    }
-    print_outcome(
-        out,
-        convert::to_derivation(book, list, relation, values, room),
-    )
-}
-
-fn run<W: Write>(
-    out: &mut W,
-    call: usize,
-    book: &[u8],
-    list: &[i32],
-    relation: usize,
-    values: &[i32],
-    room: &mut [i32],
-) -> io::Result<()> {
+// Converts the case's list into the room, filled before, and prints its line.
+fn run<W: Write>(out: &mut W, form: Form, case: &Case<'_>, room: &mut [i32]) -> io::Result<()> {
     fill(room);
-    convert_and_print(out, call, book, list, relation, values, room)?;
-    print_checksum(out, room)
+    console::print_answer(out, convert(form, case, room))?;
+    writeln!(out, " {}", checksum(room))
 }
 
-// Reads the rest of a case whose book has n bytes and whose room has k numbers, and prints its line.
-fn fill_and_run<R: Read, W: Write>(
-    input: &mut R,
-    out: &mut W,
-    call: usize,
-    n: usize,
-    k: usize,
-    book: &mut [u8],
-    values: &mut [i32],
-    list: &mut [i32],
-    room: &mut [i32],
-) -> io::Result<()>
-    requires n_in_bounds { n ≤ length book.old }
-    requires k_in_bounds { k ≤ length room.old }
-{
-    console::put_bytes(input, book, n)?;
-    let low = console::next(input)?;
-    let high = console::next(input)?;
-    let relation = console::long(low, high);
-    let count = console::next(input)?;
-    let v = console::put_written(input, values, 0, count)?;
-    let m = console::put_list(input, list)?;
-    run(
-        out,
-        call,
-        &book[..n],
-        &list[..m],
-        relation,
-        &values[..v],
-        &mut room[..k],
-    )
-}
-
-// Reads a case, its call apart, and prints its line; false where it does not fit.
+// Reads a case, its call and side apart, and prints its line; false where it does not fit.
 fn run_in<R: Read, W: Write>(
     input: &mut R,
     out: &mut W,
-    call: usize,
-    book: &mut [u8],
-    values: &mut [i32],
+    form: Form,
+    space: &mut Space,
     list: &mut [i32],
     room: &mut [i32],
 ) -> io::Result<bool> {
     let k = console::next(input)?;
     let n = console::next(input)?;
-    if k > room.len() || n > book.len() {
+    let Some(room) = room.get_mut(..k) else {
         return Ok(false);
-    }
-    fill_and_run(input, out, call, n, k, book, values, list, room)?;
+    };
+    let Some(case) = space.rest_of_case(input, n, list)? else {
+        return Ok(false);
+    };
+    run(out, form, &case, room)?;
     Ok(true)
 }
 
@@ -151,50 +80,27 @@ fn run_in<R: Read, W: Write>(
 fn run_case<R: Read, W: Write>(
     input: &mut R,
     out: &mut W,
-    book: &mut [u8],
-    values: &mut [i32],
+    space: &mut Space,
     smaller: &mut [i32],
     larger: &mut [i32],
 ) -> io::Result<bool> {
     let call = console::next(input)?;
     let side = console::next(input)?;
-    if call == 0 {
+    let Some(form) = Form::of_call(call) else {
         return Ok(false);
-    }
+    };
     if side == 0 {
-        return run_in(input, out, call, book, values, smaller, larger);
+        run_in(input, out, form, space, smaller, larger)
+    } else {
+        run_in(input, out, form, space, larger, smaller)
     }
-    run_in(input, out, call, book, values, larger, smaller)
-}
-
-fn run_all<R: Read, W: Write>(
-    input: &mut R,
-    out: &mut W,
-    book: &mut [u8; 60001],
-    values: &mut [i32; 32],
-    smaller: &mut [i32; 500000],
-    larger: &mut [i32; 1000001],
-) -> io::Result<()> {
-    let mut turns: u32 = 100000;
-    while turns > 0 && run_case(input, out, book, values, smaller, larger)? {
-        turns -= 1;
-    }
-    Ok(())
 }
 
 fn main(rt: HostRuntime) -> io::Result<()> {
     let mut input = rt.reader();
     let mut out = io::writer(&rt);
-    let mut book = [0u8; 60001];
-    let mut values = [0i32; 32];
+    let mut space = Space::new();
     let mut smaller = [0i32; 500000];
     let mut larger = [0i32; 1000001];
-    run_all(
-        &mut input,
-        &mut out,
-        &mut book,
-        &mut values,
-        &mut smaller,
-        &mut larger,
-    )
+    console::run_all(|| run_case(&mut input, &mut out, &mut space, &mut smaller, &mut larger))
 }

@@ -8,13 +8,14 @@ ghost use Rattle.meaning.specs.State.{bit, low_row, low_rows, first};
 ghost use Rattle.lists.specs.Trace.{flat, sum, size as state_size, state_numbers};
 ghost use Rattle.lists.specs.Convert.{as_trace};
 ghost use Rattle.lists.specs.Places.{trace_due};
-ghost use Rattle.book.specs.Read.{read};
-ghost use Rattle.book.specs.Meaning.{book_in};
-ghost use Rattle.book.specs.declared.Reading.TheVariants.{Good};
-ghost use Rattle.table.specs.Table.{Tabled};
-ghost use Rattle.state.specs.State.{front, rows_of, state_of, Sized};
+ghost use Rattle.book.specs.Held.{meant};
+ghost use Rattle.state.specs.State.{front, rows_of, held, Sized};
 ghost use Rattle.steps.specs.Put.{Put};
 ghost use Rattle.steps.specs.Walk.{Walk};
+
+use book::{Book, Window};
+use state::State;
+use table::Table;
 
 // ---- a state written
 
@@ -22,7 +23,7 @@ ghost use Rattle.steps.specs.Walk.{Walk};
 fn number_of(flag: bool) -> i32
     ensures { result ≡ bit flag }
 {
-    if flag { 1 } else { 0 }
+    flag as i32
 }
 
 // the first n flags
@@ -30,153 +31,121 @@ fn write_flags(flags: &[bool; 16], n: usize, room: &mut [i32], at: usize)
     requires { (n ≤ 16) × (at + n ≤ length room.old) }
     ensures { Put room.old room.new at (map bit (front false n flags.now)) }
 {
-    let mut j = 0;
-    while j < n {
+    for j in 0..n {
         room[at + j] = number_of(flags[j]);
-        j += 1;
     }
 }
 
 // the places of all relations
-fn write_places(book: &[u8], h: book::Header, rows: &[[i32; 8]; 16], room: &mut [i32], at: usize)
-    requires accepted { read book.now ≡ Good h }
-    requires fits { at + sum (book_in book.now h).arities ≤ length room.old }
-    ensures { Put room.old room.new at (flat (rows_of (book_in book.now h).arities rows.now)) }
+fn write_places(book: &Book, state: &State, room: &mut [i32], at: usize)
+    requires { at + sum (meant book.now).arities ≤ length room.old }
+    ensures { Put room.old room.new at (flat (rows_of (meant book.now).arities state.now.rows)) }
 {
-    let n = whole::wide(h.relations);
     let mut p = at;
-    let mut r = 0;
-    while r < n {
-        let many = book::arity_of(book, h, r);
-        steps::copy(&rows[r], 0, many, room, p);
+    for r in 0..book.relations() {
+        let many = book.arity(r);
+        steps::copy(&state.rows[r], 0, many, room, p);
         p += many;
-        r += 1;
     }
 }
 
 // a state's numbers
-fn write_state(
-    book: &[u8],
-    h: book::Header,
-    flags: &[bool; 16],
-    rows: &[[i32; 8]; 16],
-    room: &mut [i32],
-    at: usize,
-)
-    requires accepted { read book.now ≡ Good h }
-    requires fits { at + state_size (book_in book.now h) state.flags ≤ length room.old }
-    ensures { Put room.old room.new at (state_numbers (book_in book.now h) state.flags (state_of (book_in book.now h).arities flags.now rows.now)) }
+fn write_state(book: &Book, state: &State, room: &mut [i32], at: usize)
+    requires { at + state_size (meant book.now) state.flags ≤ length room.old }
+    ensures { Put room.old room.new at (state_numbers (meant book.now) state.flags (held (meant book.now) state.now)) }
 {
-    let n = whole::wide(h.relations);
-    write_flags(flags, n, room, at);
-    write_places(book, h, rows, room, at + n);
+    let n = book.relations();
+    write_flags(&state.flags, n, room, at);
+    write_places(book, state, room, at + n);
 }
 
 // a step's n numbers, which begin at i, and the state after it
 fn write_move(
-    book: &[u8],
-    h: book::Header,
+    book: &Book,
     list: &[i32],
     i: usize,
     n: usize,
-    flags: &[bool; 16],
-    rows: &[[i32; 8]; 16],
+    state: &State,
     room: &mut [i32],
     at: usize,
 )
-    requires accepted { read book.now ≡ Good h }
-    requires fits { (i + n ≤ length list.now) × (at + n + state_size (book_in book.now h) state.flags ≤ length room.old) }
-    ensures { Put room.old room.new at (take n (drop i list.now) ++ state_numbers (book_in book.now h) state.flags (state_of (book_in book.now h).arities flags.now rows.now)) }
+    requires { (i + n ≤ length list.now) × (at + n + state_size (meant book.now) state.flags ≤ length room.old) }
+    ensures { Put room.old room.new at (take n (drop i list.now) ++ state_numbers (meant book.now) state.flags (held (meant book.now) state.now)) }
 {
     steps::copy(list, i, n, room, at);
-    write_state(book, h, flags, rows, room, at + n);
+    write_state(book, state, room, at + n);
 }
 
-// ---- the first state's places, each at the low end of its window
+// ---- the first state: no flag is set, and each place is at the low end of its window
 
 // the low end of a window
-fn low_end(w: book::Window) -> i32
+fn low_end(w: Window) -> i32
     ensures { result ≡ w.lo }
 {
     w.lo
 }
 
-// those of relation r
-fn low_row(book: &[u8], h: book::Header, r: usize) -> [i32; 8]
-    ensures { result ≡ low_row (place_window (book_in book.now h) r) 8 }
+// the places of relation r
+fn low_row(book: &Book, r: usize) -> [i32; 8]
+    ensures { result ≡ low_row (place_window (meant book.now) r) 8 }
 {
     let mut row = [0i32; 8];
-    let mut j = 0;
-    while j < 8 {
-        row[j] = low_end(book::place_window(book, h, r, j));
-        j += 1;
+    for j in 0..8 {
+        row[j] = low_end(book.place_window(r, j));
     }
     row
 }
 
 // eight of each of sixteen relations
-fn low_rows(book: &[u8], h: book::Header) -> [[i32; 8]; 16]
-    ensures { result ≡ low_rows (place_window (book_in book.now h)) (replicate 16 8) }
+fn low_rows(book: &Book) -> [[i32; 8]; 16]
+    ensures { result ≡ low_rows (place_window (meant book.now)) (replicate 16 8) }
 {
     let mut rows = [[0i32; 8]; 16];
-    let mut r = 0;
-    while r < 16 {
-        rows[r] = low_row(book, h, r);
-        r += 1;
+    for r in 0..16 {
+        rows[r] = low_row(book, r);
     }
     rows
+}
+
+// the first state
+fn low_state(book: &Book) -> State
+    ensures { (result.flags ≡ replicate 16 false) × (result.rows ≡ low_rows (place_window (meant book.now)) (replicate 16 8)) }
+{
+    State {
+        flags: [false; 16],
+        rows: low_rows(book),
+    }
 }
 
 // ---- the walk
 
 // the steps in order, each with the state after it, behind the first state
-fn write_steps(
-    book: &[u8],
-    h: book::Header,
-    table: &[[u16; 8]; 64],
-    list: &[i32],
-    size: usize,
-    room: &mut [i32],
-)
-    requires tabled { Tabled book.now h table.now }
-    requires walk { Walk book.now h list.now 0 0 }
-    requires sized { Sized (book_in book.now h) state.flags size }
-    requires fits { size + length (trace_due (book_in book.now h) state.flags list.now 0 (first (book_in book.now h) state.flags)) ≤ length room.old }
-    ensures { Put room.old room.new size (trace_due (book_in book.now h) state.flags list.now 0 (first (book_in book.now h) state.flags)) }
+fn write_steps(table: &Table, list: &[i32], size: usize, room: &mut [i32])
+    requires walk { Walk table.now.book.bytes.now table.now.book.header list.now 0 0 }
+    requires sized { Sized (meant table.now.book) state.flags size }
+    requires fits { size + length (trace_due (meant table.now.book) state.flags list.now 0 (first (meant table.now.book) state.flags)) ≤ length room.old }
+    ensures { Put room.old room.new size (trace_due (meant table.now.book) state.flags list.now 0 (first (meant table.now.book) state.flags)) }
 {
-    let mut flags = [false; 16];
-    let mut rows = low_rows(book, h);
+    let mut state = low_state(&table.book);
     let mut at = size;
     let mut i = 0;
     while i < list.len() {
-        let k = instance::number_at(list, i, h.count);
-        let n = 1 + table::cell(table, k, table::VARIABLES);
-        let r = table::cell(table, k, table::HEAD);
-        flags[r] = true;
-        state::put(book, h, table, k, list, i + 1, &mut rows);
-        write_move(book, h, list, i, n, &flags, &rows, room, at);
+        let k = instance::number_at(list, i, table.book.header.count);
+        let n = 1 + table.row(k).variables as usize;
+        state.put(table, k, list, i + 1);
+        write_move(&table.book, list, i, n, &state, room, at);
         at = at + n + size;
         i += n;
     }
 }
 
 // Writes the trace's numbers to the front of the room.
-pub fn write(
-    book: &[u8],
-    h: book::Header,
-    table: &[[u16; 8]; 64],
-    list: &[i32],
-    size: usize,
-    room: &mut [i32],
-)
-    requires tabled { Tabled book.now h table.now }
-    requires walk { Walk book.now h list.now 0 0 }
-    requires sized { Sized (book_in book.now h) state.flags size }
-    requires fits { length (as_trace (book_in book.now h) state.flags list.now) ≤ length room.old }
-    ensures { Put room.old room.new 0 (as_trace (book_in book.now h) state.flags list.now) }
+pub fn write(table: &Table, list: &[i32], size: usize, room: &mut [i32])
+    requires walk { Walk table.now.book.bytes.now table.now.book.header list.now 0 0 }
+    requires sized { Sized (meant table.now.book) state.flags size }
+    requires fits { length (as_trace (meant table.now.book) state.flags list.now) ≤ length room.old }
+    ensures { Put room.old room.new 0 (as_trace (meant table.now.book) state.flags list.now) }
 {
-    let flags = [false; 16];
-    let rows = low_rows(book, h);
-    write_state(book, h, &flags, &rows, room, 0);
-    write_steps(book, h, table, list, size, room);
+    write_state(&table.book, &low_state(&table.book), room, 0);
+    write_steps(table, list, size, room);
 }

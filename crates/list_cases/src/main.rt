@@ -7,96 +7,41 @@
 // tests/list_cases.py.
 #![tactic(auto)]
 
-ghost use Rattle.std.specs.Prelude.{◌≤◌, length};
-
+use console::{Case, Form, Space};
 use std::io;
 use std::io::{Read, Write};
 
-fn print_line<W: Write>(out: &mut W, answer: reply::Answer) -> io::Result<()> {
-    match answer {
-        reply::Answer::Done(_) => {
-            console::print_answer(out, 0, 0)?;
-        }
-        reply::Answer::Refused(r) => {
-            console::print_answer(out, r.number, r.place)?;
-        }
+fn check(form: Form, case: &Case<'_>) -> reply::Answer {
+    match form {
+        Form::Derivation => derivation::check(case.book, case.list, case.relation, case.values),
+        Form::Trace => trace::check(case.book, case.list, case.relation, case.values),
     }
-    console::write(out, b"\n")
-}
-
-fn run<W: Write>(
-    out: &mut W,
-    call: usize,
-    book: &[u8],
-    list: &[i32],
-    relation: usize,
-    values: &[i32],
-) -> io::Result<()> {
-    if call == 1 {
-        print_line(out, derivation::check(book, list, relation, values))
-    } else {
-        print_line(out, trace::check(book, list, relation, values))
-    }
-}
-
-// Reads the rest of a case whose book has n bytes, and prints its line.
-fn fill_and_run<R: Read, W: Write>(
-    input: &mut R,
-    out: &mut W,
-    call: usize,
-    n: usize,
-    book: &mut [u8],
-    list: &mut [i32],
-    values: &mut [i32],
-) -> io::Result<()>
-    requires { n ≤ length book.old }
-{
-    console::put_bytes(input, book, n)?;
-    let low = console::next(input)?;
-    let high = console::next(input)?;
-    let relation = console::long(low, high);
-    let count = console::next(input)?;
-    let v = console::put_written(input, values, 0, count)?;
-    let m = console::put_list(input, list)?;
-    run(out, call, &book[..n], &list[..m], relation, &values[..v])
 }
 
 // Reads the next case and prints its line; false where there is none left.
 fn run_case<R: Read, W: Write>(
     input: &mut R,
     out: &mut W,
-    book: &mut [u8],
+    space: &mut Space,
     list: &mut [i32],
-    values: &mut [i32],
 ) -> io::Result<bool> {
     let call = console::next(input)?;
     let n = console::next(input)?;
-    if call == 0 || n > book.len() {
+    let Some(form) = Form::of_call(call) else {
         return Ok(false);
-    }
-    fill_and_run(input, out, call, n, book, list, values)?;
+    };
+    let Some(case) = space.rest_of_case(input, n, list)? else {
+        return Ok(false);
+    };
+    console::print_answer(out, check(form, &case))?;
+    writeln!(out)?;
     Ok(true)
-}
-
-fn run_all<R: Read, W: Write>(
-    input: &mut R,
-    out: &mut W,
-    book: &mut [u8; 60001],
-    list: &mut [i32; 1000001],
-    values: &mut [i32; 32],
-) -> io::Result<()> {
-    let mut turns: u32 = 100000;
-    while turns > 0 && run_case(input, out, book, list, values)? {
-        turns -= 1;
-    }
-    Ok(())
 }
 
 fn main(rt: HostRuntime) -> io::Result<()> {
     let mut input = rt.reader();
     let mut out = io::writer(&rt);
-    let mut book = [0u8; 60001];
+    let mut space = Space::new();
     let mut list = [0i32; 1000001];
-    let mut values = [0i32; 32];
-    run_all(&mut input, &mut out, &mut book, &mut list, &mut values)
+    console::run_all(|| run_case(&mut input, &mut out, &mut space, &mut list))
 }

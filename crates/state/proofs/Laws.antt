@@ -1,5 +1,5 @@
 -- The ways of the functions over a state.
-use mathlib.Core.Path.{◌≡◌, refl, sym, ap, ap₂, ◌∙◌}
+use mathlib.Core.Path.{◌≡◌, refl, sym, ap₂, ◌∙◌}
 use mathlib.Core.Bool.{Bool, true, false, ◌&&◌}
 use mathlib.Core.List.{List, [], ◌∷◌, ◌++◌, map}
 use Prim.Native.Nat.{ℕ, ◌+◌, ◌^◌, ◌≤◌, ◌<◌}
@@ -11,38 +11,36 @@ use lib.Dec.{eqb, leb}
 use lib.IntN.{ℤ, pos, negsuc}
 use lib.Signed.{mag}
 use mir.Syntax.{w32}
-use mir.Val.{hbits, of_z}
+use mir.Val.{hbits, of_z, bool_byte}
 use borrow.Author.Tests.{eqb-true, eqb-false, eq-eqb, ne_eqb}
 use Rattle.meaning.specs.Book.{head, body}
 use Rattle.meaning.specs.State.{bit, flags}
 use Rattle.lists.specs.Compare.{eq_z, eq_vals, first_diff}
-use Rattle.lists.specs.Instance.{clause_at, step_at}
+use Rattle.lists.specs.Instance.{step_at}
 use Rattle.lists.specs.Derivation.{goal}
 use Rattle.lists.specs.Trace.{flat, state_numbers, has, meets}
 use Rattle.book.specs.declared.Header.{Header}
 use Rattle.book.specs.Read.{read}
 use Rattle.book.specs.Meaning.{book_in}
 use Rattle.book.specs.Arities.{relations-are}
-use Rattle.table.specs.Table.{Tabled}
-use Rattle.instance.specs.Values.{values_at, Valued}
+use Rattle.table.specs.declared.Seat.{Seat}
+use Rattle.table.specs.declared.Row.{Row}
+use Rattle.table.specs.Table.{IsRow}
+use Rattle.instance.specs.Values.{values_at}
 use Rattle.instance.proofs.Numbers.{same_number}
-use Rattle.instance.proofs.Atoms.{head_at, head-there, head-below, head-full, body-none, body_at, body-there, body_below}
+use Rattle.instance.proofs.Atoms.{head_at, body-none, body_at, body_below}
 use Rattle.state.specs.State.{front, rows_of, state_of, over, row_put}
 use Rattle.state.specs.Laws.{front_length, front-take, rows-cons, state-has}
-use Rattle.state.proofs.Shape.{relations-few, arities-small, arity-cons, arity-none}
+use Rattle.state.proofs.Shape.{relation-few, relation-there, arities-small, arity-cons, arity-none}
 use Rattle.state.proofs.Difference.{diff-nil, diff-all, parts-stop, parts-on}
+use Rattle.std.specs.Prelude as code
 use Rattle.std.specs.Prelude.{Ok}
 
 -- ---- a flag's number
 
-module _ (x : ℤ) (f : Bool) where
-  pub flag-on : mag x < 2 ^ hbits w32 → f ≡ true → eqb (of_z w32 x) 1 ≡ eq_z x (bit f)
-  flag-on h e = rw e (same_number x (pos 1) h (omega arith))
-
-  pub flag_off : mag x < 2 ^ hbits w32 → f ≡ false → eqb (of_z w32 x) 0 ≡ eq_z x (bit f)
-  flag_off h e = rw e (same_number x (pos 0) h (omega arith))
-
-pub ruleset flag-laws = (flag-on, flag_off)
+pub flag_is : (x : ℤ) (f : Bool) → mag x < 2 ^ hbits w32 → eqb (of_z w32 x) (bool_byte f) ≡ eq_z x (bit f)
+flag_is x true h = same_number x (pos 1) h (omega arith)
+flag_is x false h = same_number x (pos 0) h (omega arith)
 
 -- ---- the places from relation r on, in a list from p on
 
@@ -114,61 +112,47 @@ module _ (s : List ℕ) (h : Header) (good : read s ≡ Ok h) (fs : List Bool) (
       let own : front (pos 0) (length vals) vals ≡ vals = front-take (pos 0) (length vals) vals (omega arith) ∙ take-length vals in
       rw (has-is s h good fs vs below full vals, on, q, own, front-take (pos 0) (length vals) (get_or vs r []) k) (rw z at (diff-all 0 (get_or vs r []) vals k))
 
--- ---- whether a state meets the body of a step by clause k, whose relation the code has as r
+-- ---- whether a state meets the body of a step by clause k, whose row is `row`
 
-module _ {s : List ℕ} {h : Header} {t : List (List ℕ)} (w : Tabled s h t) {k : ℕ} (below : k < h.count) (l : List ℤ) (j : ℕ) (fs : List Bool) (vs : List (List ℤ)) {r : ℕ} (q : r ≡ get_or (get_or t k []) 1 0) where
+module _ {s : List ℕ} {h : Header} (good : read s ≡ Ok h) {k : ℕ} {row : Row} (w : IsRow s h k row) (l : List ℤ) (j : ℕ) (fs : List Bool) (vs : List (List ℤ)) where
   abbrev met : Bool
   met = meets (book_in s h) flags (body (book_in s h) (step_at (book_in s h) k (drop j l))) (state_of (book_in s h).arities fs vs)
 
-  pub meets-none : r ≡ 255 → true ≡ met
+  pub meets-none : row.body ≡ code.None → true ≡ met
   unfolding meets
-  meets-none e = rw (body-none w below l j (sym q ∙ e))
+  meets-none e = rw (body-none w l j e)
 
-  module _ (some-body : r ≡ 255 → ⊥) where
-    other : get_or (get_or t k []) 1 0 ≡ 255 → ⊥
-    other e = some-body (q ∙ e)
+  module _ {x : Seat} (e : row.body ≡ code.Some x) where
+    abbrev below : x.relation < h.relations
+    below = (body_below w l j e).0
 
-    pub body-relation : r < h.relations
-    body-relation = rw q (body_below w below l j other).0
-
-    pub body-few : r < 16
-    body-few = omega (arith, body-relation, relations-few s h w.good)
-
-    as_row : {x : Bool} → x ≡ has (book_in s h) flags (goal r (values_at s l (get_or (get_or t k []) 2 0) j (get_or (get_or t k []) 3 0))) (state_of (book_in s h).arities fs vs) → x ≡ met
+    as_row : {y : Bool} → y ≡ has (book_in s h) flags (goal x.relation (values_at s l x.at j x.many)) (state_of (book_in s h).arities fs vs) → y ≡ met
     unfolding meets
-    as_row z = rw (body_at w below l j other, ← q) z
+    as_row z = rw (body_at w l j e) z
 
-    pub meets-off : get_or fs r false ≡ false → false ≡ met
-    meets-off off = as_row (holds-off s h w.good fs vs body-relation refl _ off)
+    pub body-few : x.relation < 16
+    body-few = relation-few s h good refl below
 
-    -- where its arguments begin, and how many there are
-    module _ {p n : ℕ} (u : p ≡ get_or (get_or t k []) 2 0) (v : n ≡ get_or (get_or t k []) 3 0) where
-      full : n ≡ get_or (book_in s h).arities r 0
-      full = v ∙ (body_below w below l j other).1 ∙ ap (λ (m : ℕ). get_or (book_in s h).arities m 0) (sym q)
+    pub body-small : x.many ≤ 8
+    body-small = omega (arith, (body_below w l j e).1, arities-small s h good x.relation (relation-there s h good refl below))
 
-      pub body-small : n ≤ 8
-      body-small = omega (arith, full, arities-small s h w.good r (omega (arith, body-relation, relations-are s h w.good)))
+    pub meets-off : get_or fs x.relation false ≡ false → false ≡ met
+    meets-off off = as_row (holds-off s h good fs vs below refl _ off)
 
-      pub body-valued : j + (clause_at (book_in s h) k).vars ≤ length l → Valued s (length l) p j n
-      body-valued b = rw (u, v) (body-there w below l j other b)
-
-      pub meets-row : {x : Bool} → n ≤ length (get_or vs r []) → get_or fs r false ≡ true → x ≡ eq_vals (values_at s l p j n) (take n (get_or vs r [])) → x ≡ met
-      meets-row b on z = as_row (rw (← u, ← v) (holds_row s h w.good fs vs body-relation full (values_at s l p j n) b on z))
+    pub meets-row : {y : Bool} → x.many ≤ length (get_or vs x.relation []) → get_or fs x.relation false ≡ true
+        → y ≡ eq_vals (values_at s l x.at j x.many) (take x.many (get_or vs x.relation [])) → y ≡ met
+    meets-row b on z = as_row (holds_row s h good fs vs below (body_below w l j e).1 (values_at s l x.at j x.many) b on z)
 
 -- ---- the head put into its row
 
-module _ {s : List ℕ} {h : Header} {t : List (List ℕ)} (w : Tabled s h t) {k : ℕ} (below : k < h.count) (l : List ℤ) (j : ℕ) {r : ℕ} (q : r ≡ get_or (get_or t k []) 4 0) where
-  pub head_few : r < 16
-  head_few = omega (arith, head-below w below l j, relations-few s h w.good)
+pub head_few : {s : List ℕ} {h : Header} {k : ℕ} {row : Row} → read s ≡ Ok h → IsRow s h k row → row.head.relation < 16
+head_few {s} {h} good w = relation-few s h good refl w.head.below
 
-  -- where its arguments begin, and how many there are
-  module _ {p n : ℕ} (u : p ≡ get_or (get_or t k []) 5 0) (v : n ≡ get_or (get_or t k []) 6 0) where
-    pub head_small : n ≤ 8
-    head_small = omega (arith, head-full w below l j, arities-small s h w.good (get_or (get_or t k []) 4 0) (omega (arith, head-below w below l j, relations-are s h w.good)))
+module _ {s : List ℕ} {h : Header} {k : ℕ} {row : Row} (w : IsRow s h k row) (l : List ℤ) (j : ℕ) where
+  pub head_set : (fs : List Bool) → set fs row.head.relation true ≡ set fs (head (book_in s h) (step_at (book_in s h) k (drop j l))).rel true
+  head_set fs = rw (head_at w l j)
 
-    pub head-valued : j + (clause_at (book_in s h) k).vars ≤ length l → Valued s (length l) p j n
-    head-valued b = rw (u, v) (head-there w below l j b)
-
-    pub head-put : (vs : List (List ℤ)) (row : List ℤ) → row ≡ over (values_at s l p j n) (get_or vs r []) → set vs r row ≡ row_put (head (book_in s h) (step_at (book_in s h) k (drop j l))) vs
-    unfolding row_put
-    head-put vs row e = rw (head_at w below l j, e, q, u, v)
+  pub head-put : (vs : List (List ℤ)) (v : List ℤ) → v ≡ over (values_at s l row.head.at j row.head.many) (get_or vs row.head.relation [])
+      → set vs row.head.relation v ≡ row_put (head (book_in s h) (step_at (book_in s h) k (drop j l))) vs
+  unfolding row_put
+  head-put vs v e = rw (head_at w l j, e)

@@ -47,3 +47,18 @@ module _ (ns : List ℕ) (r : ℕ) where
   pub sum-none : length ns ≤ r → sum (drop r ns) ≡ 0
   unfolding sum
   sum-none h = rw (arity-none h)
+
+-- ---- a relation r below the book's n: the arrays have it, and what its places and the later ones take
+
+module _ (s : List ℕ) (h : Header) (good : read s ≡ Ok h) {n r : ℕ} (e : n ≡ h.relations) where
+  pub relation-there : r < n → r < length (book_in s h).arities
+  relation-there b = rw (relations-are s h good, ← e) b
+
+  pub relation-past : n ≤ r → length (book_in s h).arities ≤ r
+  relation-past b = rw (relations-are s h good, ← e) b
+
+  pub relation-few : r < n → r < 16
+  relation-few b = omega (arith, relations-few s h good)
+
+  pub relation-places : r < n → sum (drop r (book_in s h).arities) ≡ get_or (book_in s h).arities r 0 + sum (drop (r + 1) (book_in s h).arities)
+  relation-places b = sum_more (book_in s h).arities r (relation-there b)

@@ -3,6 +3,7 @@ use Rattle.std.specs.Prelude.{◌≡◌, Bool, false, List, [], ◌∷◌, ◌++
 use Rattle.meaning.specs.Book.{Book, Fact}
 use Rattle.meaning.specs.State.{Control, State, flags}
 use Rattle.lists.specs.Trace.{cut, size}
+use Rattle.state.specs.declared.State as code
 
 -- the first n of a list, with d for those that are not there
 unfoldable pub front : {A : Type 0} → A → ℕ → List A → List A
@@ -23,6 +24,10 @@ placed C κ ns vs = record { ctl = κ; rows = rows_of ns vs }
 -- the state that flags and rows hold
 unfoldable pub state_of : List ℕ → List Bool → List (List ℤ) → State flags
 state_of ns fs vs = placed flags (front false (length ns) fs) ns vs
+
+-- the state that the code's state holds in a book
+abbrev pub held : Book → code.State → State flags
+held b σ = state_of b.arities σ.flags σ.rows
 
 -- values put over the front of a row
 unfoldable pub over : List ℤ → List ℤ → List ℤ

@@ -1,20 +1,25 @@
 // The walked state of a trace: sixteen flags and sixteen rows of eight places, by value.
 #![tactic(auto)]
 
-ghost use Rattle.std.specs.Prelude.{◌≡◌, false, map, ◌+◌, ◌<◌, ◌≤◌, length, get_or, take, drop, pos};
-ghost use Rattle.meaning.specs.Book.{place_window, head, body};
+ghost use Rattle.std.specs.Prelude.{◌≡◌, false, true, map, ◌+◌, ◌<◌, ◌≤◌, length, get_or, take, drop, set, replicate, pos};
+ghost use Rattle.meaning.specs.Book.{place_window};
 ghost use Rattle.meaning.specs.State as state;
 ghost use Rattle.meaning.specs.State.{bit};
 ghost use Rattle.lists.specs.Compare.{eq_z, first_diff, first_out};
-ghost use Rattle.lists.specs.Instance.{clause_at, step_at};
-ghost use Rattle.lists.specs.Derivation.{goal};
-ghost use Rattle.lists.specs.Trace.{flat, sum, cut, first_out_rows, size as state_size, state_numbers, has, meets as body_met};
-ghost use Rattle.book.specs.Read.{read};
-ghost use Rattle.book.specs.Meaning.{book_in};
-ghost use Rattle.book.specs.declared.Reading.TheVariants.{Good};
-ghost use Rattle.table.specs.Table.{Tabled};
+ghost use Rattle.lists.specs.Trace.{flat, sum, cut, first_out_rows};
+ghost use Rattle.book.specs.Held.{meant};
 ghost use Rattle.instance.specs.Values.{values_at, Valued};
-ghost use Rattle.state.specs.State.{front, rows_of, state_of, over, row_put, first_rows, Sized};
+ghost use Rattle.state.specs.State.{front, rows_of, over, first_rows, Sized};
+
+use book::Book;
+use table::Table;
+
+// The flags of sixteen relations, and a row of eight places for each.
+#[derive(Clone, Copy)]
+pub struct State {
+    pub flags: [bool; 16],
+    pub rows: [[i32; 8]; 16],
+}
 
 // ---- comparing with a list
 
@@ -23,7 +28,7 @@ fn flag_same(list: &[i32], i: usize, flag: bool) -> bool
     requires { i < length list.now }
     ensures { result ≡ eq_z (get_or list.now i (pos 0)) (bit flag) }
 {
-    if flag { list[i] == 1 } else { list[i] == 0 }
+    list[i] == flag as i32
 }
 
 // The first of n numbers from `at` on that is not its flag's, or the place after them.
@@ -31,15 +36,12 @@ pub fn flags_differ(list: &[i32], at: usize, flags: &[bool; 16], n: usize) -> us
     requires { (n ≤ 16) × (at + n ≤ length list.now) }
     ensures { result ≡ first_diff at (drop at list.now) (map bit (front false n flags.now)) }
 {
-    let mut j = 0;
-    while j < n {
-        if flag_same(list, at + j, flags[j]) {
-            j += 1;
-        } else {
+    for j in 0..n {
+        if !flag_same(list, at + j, flags[j]) {
             return at + j;
         }
     }
-    at + j
+    at + n
 }
 
 // the first of n numbers from `at` on that is not the row's, or the place after them
@@ -47,31 +49,42 @@ fn row_differs(list: &[i32], at: usize, row: &[i32], n: usize) -> usize
     requires { (n ≤ length row.now) × (at + n ≤ length list.now) }
     ensures { result ≡ first_diff at (drop at list.now) (front (pos 0) n row.now) }
 {
-    let mut j = 0;
-    while j < n {
-        if instance::same_at(list, at + j, row, j) {
-            j += 1;
-        } else {
+    for j in 0..n {
+        if !instance::same_at(list, at + j, row, j) {
             return at + j;
         }
     }
-    at + j
+    at + n
 }
 
 // the first of the places of relation r, n from `at` on, that lies outside its window, or the place after them
-fn row_out(book: &[u8], h: book::Header, r: usize, list: &[i32], at: usize, n: usize) -> usize
+fn row_out(book: &Book, r: usize, list: &[i32], at: usize, n: usize) -> usize
     requires { at + n ≤ length list.now }
-    ensures { result ≡ first_out (place_window (book_in book.now h) r) at (take n (drop at list.now)) }
+    ensures { result ≡ first_out (place_window (meant book.now) r) at (take n (drop at list.now)) }
 {
-    let mut j = 0;
-    while j < n {
-        if instance::inside_at(list, at + j, book::place_window(book, h, r, j)) {
-            j += 1;
-        } else {
+    for j in 0..n {
+        if !instance::inside_at(list, at + j, book.place_window(r, j)) {
             return at + j;
         }
     }
-    at + j
+    at + n
+}
+
+// The first of a state's places, which stand from `at` on, that lies outside its window, or the place after them.
+pub fn places_out(book: &Book, list: &[i32], at: usize) -> usize
+    requires { at + sum (meant book.now).arities ≤ length list.now }
+    ensures { result ≡ first_out_rows (place_window (meant book.now)) at (cut (meant book.now).arities (drop at list.now)) }
+{
+    let mut p = at;
+    for r in 0..book.relations() {
+        let many = book.arity(r);
+        let o = row_out(book, r, list, p, many);
+        if o < p + many {
+            return o;
+        }
+        p += many;
+    }
+    p
 }
 
 // ---- rows, written in place
@@ -81,11 +94,7 @@ fn load(list: &[i32], at: usize, n: usize, row: &mut [i32])
     requires { (n ≤ length row.old) × (at + n ≤ length list.now) }
     ensures { row.new ≡ over (take n (drop at list.now)) row.old }
 {
-    let mut j = 0;
-    while j < n {
-        row[j] = list[at + j];
-        j += 1;
-    }
+    row[..n].copy_from_slice(&list[at..at + n]);
 }
 
 // the values of n arguments put over the front of a row
@@ -93,183 +102,126 @@ fn fill(book: &[u8], list: &[i32], p: usize, from: usize, n: usize, row: &mut [i
     requires { (n ≤ length row.old) × (Valued book.now (length list.now) p from n) }
     ensures { row.new ≡ over (values_at book.now list.now p from n) row.old }
 {
-    let mut j = 0;
-    while j < n {
-        let i = instance::spot(book, p + j, from);
-        row[j] = list[i];
-        j += 1;
+    for j in 0..n {
+        row[j] = list[instance::spot(book, p + j, from)];
     }
-}
-
-// The head of a step by clause k, its values from `from` on in the list, put into its row.
-pub fn put(
-    book: &[u8],
-    h: book::Header,
-    table: &[[u16; 8]; 64],
-    k: usize,
-    list: &[i32],
-    from: usize,
-    rows: &mut [[i32; 8]; 16],
-)
-    requires tabled { Tabled book.now h table.now }
-    requires k_lt_count { (k < h.count) × (from + (clause_at (book_in book.now h) k).vars ≤ length list.now) }
-    ensures { rows.new ≡ row_put (head (book_in book.now h) (step_at (book_in book.now h) k (drop from list.now))) rows.old }
-{
-    let r = table::cell(table, k, table::HEAD);
-    let p = table::cell(table, k, table::HEAD_AT);
-    let n = table::cell(table, k, table::HEAD_MANY);
-    fill(book, list, p, from, n, &mut rows[r]);
 }
 
 // ---- states
 
 // How many numbers a state has: a flag for each relation, then all places.
-pub fn size(book: &[u8], h: book::Header) -> usize
-    requires { read book.now ≡ Good h }
-    ensures { Sized (book_in book.now h) state.flags result }
+pub fn size(book: &Book) -> usize
+    ensures { Sized (meant book.now) state.flags result }
 {
-    let n = whole::wide(h.relations);
-    let mut total = n;
-    let mut r = 0;
-    while r < n {
-        total += book::arity_of(book, h, r);
-        r += 1;
+    let mut total = book.relations();
+    for r in 0..book.relations() {
+        total += book.arity(r);
     }
     total
 }
 
-// The places of a state that stand from `at` on, as rows.
-pub fn first_places(book: &[u8], h: book::Header, list: &[i32], at: usize) -> [[i32; 8]; 16]
-    requires accepted { read book.now ≡ Good h }
-    requires fits { at + sum (book_in book.now h).arities ≤ length list.now }
-    ensures { result ≡ first_rows (book_in book.now h).arities (drop at list.now) }
-{
-    let n = whole::wide(h.relations);
-    let mut rows = [[0i32; 8]; 16];
-    let mut p = at;
-    let mut r = 0;
-    while r < n {
-        let many = book::arity_of(book, h, r);
-        load(list, p, many, &mut rows[r]);
-        p += many;
-        r += 1;
-    }
-    rows
-}
+impl State {
+    ghost use Rattle.meaning.specs.Book.{head, body};
+    ghost use Rattle.lists.specs.Instance.{clause_at, step_at};
+    ghost use Rattle.lists.specs.Derivation.{goal};
+    ghost use Rattle.lists.specs.Trace.{size as state_size, state_numbers, has, meets as body_met};
+    ghost use Rattle.state.specs.State.{held, row_put};
 
-// The first of a state's places, which stand from `at` on, that lies outside its window, or the place after them.
-pub fn places_out(book: &[u8], h: book::Header, list: &[i32], at: usize) -> usize
-    requires accepted { read book.now ≡ Good h }
-    requires fits { at + sum (book_in book.now h).arities ≤ length list.now }
-    ensures { result ≡ first_out_rows (place_window (book_in book.now h)) at (cut (book_in book.now h).arities (drop at list.now)) }
-{
-    let n = whole::wide(h.relations);
-    let mut p = at;
-    let mut r = 0;
-    while r < n {
-        let many = book::arity_of(book, h, r);
-        let o = row_out(book, h, r, list, p, many);
-        if o < p + many {
-            return o;
+    // The state with no flag set and the places that stand from `at` on.
+    pub fn first(book: &Book, list: &[i32], at: usize) -> State
+        requires { at + sum (meant book.now).arities ≤ length list.now }
+        ensures flags { result.flags ≡ replicate 16 false }
+        ensures rows { result.rows ≡ first_rows (meant book.now).arities (drop at list.now) }
+    {
+        let mut rows = [[0i32; 8]; 16];
+        let mut p = at;
+        for r in 0..book.relations() {
+            let many = book.arity(r);
+            load(list, p, many, &mut rows[r]);
+            p += many;
         }
-        p += many;
-        r += 1;
+        State {
+            flags: [false; 16],
+            rows,
+        }
     }
-    p
-}
 
-// the first number from `at` on that is not the place's, or the place after them
-fn places_differ(
-    book: &[u8],
-    h: book::Header,
-    rows: &[[i32; 8]; 16],
-    list: &[i32],
-    at: usize,
-) -> usize
-    requires accepted { read book.now ≡ Good h }
-    requires fits { at + sum (book_in book.now h).arities ≤ length list.now }
-    ensures { result ≡ first_diff at (drop at list.now) (flat (rows_of (book_in book.now h).arities rows.now)) }
-{
-    let n = whole::wide(h.relations);
-    let mut p = at;
-    let mut r = 0;
-    while r < n {
-        let many = book::arity_of(book, h, r);
-        let d = row_differs(list, p, &rows[r], many);
-        if d < p + many {
+    // The head of a step by clause k, its values from `from` on in the list, put in: its flag set, its row replaced.
+    pub fn put(&mut self, table: &Table, k: usize, list: &[i32], from: usize)
+        requires { (k < table.now.book.header.count) × (from + (clause_at (meant table.now.book) k).vars ≤ length list.now) }
+        ensures flags { self.new.flags ≡ set self.old.flags (head (meant table.now.book) (step_at (meant table.now.book) k (drop from list.now))).rel true }
+        ensures rows { self.new.rows ≡ row_put (head (meant table.now.book) (step_at (meant table.now.book) k (drop from list.now))) self.old.rows }
+    {
+        let row = table.row(k);
+        let r = row.head.relation as usize;
+        self.flags[r] = true;
+        fill(
+            table.book.bytes,
+            list,
+            row.head.at as usize,
+            from,
+            row.head.many as usize,
+            &mut self.rows[r],
+        );
+    }
+
+    // the first number from `at` on that is not the place's, or the place after them
+    fn places_differ(&self, book: &Book, list: &[i32], at: usize) -> usize
+        requires { at + sum (meant book.now).arities ≤ length list.now }
+        ensures { result ≡ first_diff at (drop at list.now) (flat (rows_of (meant book.now).arities self.now.rows)) }
+    {
+        let mut p = at;
+        for r in 0..book.relations() {
+            let many = book.arity(r);
+            let d = row_differs(list, p, &self.rows[r], many);
+            if d < p + many {
+                return d;
+            }
+            p += many;
+        }
+        p
+    }
+
+    // The first number from `at` on that is not the state's, or the place after them.
+    pub fn differs(&self, book: &Book, list: &[i32], at: usize) -> usize
+        requires { at + state_size (meant book.now) state.flags ≤ length list.now }
+        ensures { result ≡ first_diff at (drop at list.now) (state_numbers (meant book.now) state.flags (held (meant book.now) self.now)) }
+    {
+        let n = book.relations();
+        let d = flags_differ(list, at, &self.flags, n);
+        if d < at + n {
             return d;
         }
-        p += many;
-        r += 1;
+        self.places_differ(book, list, at + n)
     }
-    p
-}
 
-// The first number from `at` on that is not the state's, or the place after them.
-pub fn differs(
-    book: &[u8],
-    h: book::Header,
-    flags: &[bool; 16],
-    rows: &[[i32; 8]; 16],
-    list: &[i32],
-    at: usize,
-) -> usize
-    requires accepted { read book.now ≡ Good h }
-    requires fits { at + state_size (book_in book.now h) state.flags ≤ length list.now }
-    ensures { result ≡ first_diff at (drop at list.now) (state_numbers (book_in book.now h) state.flags (state_of (book_in book.now h).arities flags.now rows.now)) }
-{
-    let n = whole::wide(h.relations);
-    let d = flags_differ(list, at, flags, n);
-    if d < at + n {
-        return d;
+    // Whether a state holds a fact: a relation with its values.
+    pub fn holds(&self, book: &Book, relation: usize, values: &[i32]) -> bool
+        requires { (relation < book.now.header.relations) × (length values.now ≡ get_or (meant book.now).arities relation 0) }
+        ensures { result ≡ has (meant book.now) state.flags (goal relation values.now) (held (meant book.now) self.now) }
+    {
+        self.flags[relation]
+            && values.len() <= row_differs(&self.rows[relation], 0, values, values.len())
     }
-    places_differ(book, h, rows, list, at + n)
-}
 
-// Whether a state holds a fact: a relation with its values.
-pub fn holds(
-    book: &[u8],
-    h: book::Header,
-    flags: &[bool; 16],
-    rows: &[[i32; 8]; 16],
-    relation: usize,
-    values: &[i32],
-) -> bool
-    requires accepted { read book.now ≡ Good h }
-    requires relation_lt_relations { (relation < h.relations) × (length values.now ≡ get_or (book_in book.now h).arities relation 0) }
-    ensures { result ≡ has (book_in book.now h) state.flags (goal relation values.now) (state_of (book_in book.now h).arities flags.now rows.now) }
-{
-    if flags[relation] {
-        values.len() <= row_differs(&rows[relation], 0, values, values.len())
-    } else {
-        false
-    }
-}
-
-// Whether a state meets the body of a step by clause k, whose values stand from `from` on in the list.
-pub fn meets(
-    book: &[u8],
-    h: book::Header,
-    table: &[[u16; 8]; 64],
-    k: usize,
-    flags: &[bool; 16],
-    rows: &[[i32; 8]; 16],
-    list: &[i32],
-    from: usize,
-) -> bool
-    requires tabled { Tabled book.now h table.now }
-    requires k_lt_count { (k < h.count) × (from + (clause_at (book_in book.now h) k).vars ≤ length list.now) }
-    ensures { result ≡ body_met (book_in book.now h) state.flags (body (book_in book.now h) (step_at (book_in book.now h) k (drop from list.now))) (state_of (book_in book.now h).arities flags.now rows.now) }
-{
-    let r = table::cell(table, k, table::BODY);
-    if r == 255 {
-        return true;
-    }
-    if flags[r] {
-        let p = table::cell(table, k, table::BODY_AT);
-        let n = table::cell(table, k, table::BODY_MANY);
-        instance::values_are(book, list, p, from, n, &rows[r])
-    } else {
-        false
+    // Whether a state meets the body of a step by clause k, whose values stand from `from` on in the list.
+    pub fn meets(&self, table: &Table, k: usize, list: &[i32], from: usize) -> bool
+        requires { (k < table.now.book.header.count) × (from + (clause_at (meant table.now.book) k).vars ≤ length list.now) }
+        ensures { result ≡ body_met (meant table.now.book) state.flags (body (meant table.now.book) (step_at (meant table.now.book) k (drop from list.now))) (held (meant table.now.book) self.now) }
+    {
+        let row = table.row(k);
+        let Some(b) = row.body else {
+            return true;
+        };
+        let r = b.relation as usize;
+        self.flags[r]
+            && instance::values_are(
+                table.book.bytes,
+                list,
+                b.at as usize,
+                from,
+                b.many as usize,
+                &self.rows[r],
+            )
     }
 }

@@ -14,64 +14,33 @@ const SHOWN: usize = 1500;
 
 // Byte i of the room becomes i mod 251.
 fn fill(room: &mut [u8]) {
-    let mut i = 0;
-    while i < room.len() {
-        room[i] = (i % 251) as u8;
-        i += 1;
+    for (i, b) in room.iter_mut().enumerate() {
+        *b = (i % 251) as u8;
     }
-}
-
-// What was written lies within the room.
-fn within(n: usize, size: usize) -> usize
-    ensures { result ≤ size }
-{
-    if n > size { size } else { n }
-}
-
-fn print_text<W: Write>(out: &mut W, text: &[u8]) -> io::Result<()> {
-    if text.len() <= SHOWN {
-        console::write(out, text)?;
-    }
-    Ok(())
 }
 
 // The room after the call, of which n bytes were written.
 fn print_room<W: Write>(out: &mut W, room: &[u8], n: usize) -> io::Result<()>
     requires { n ≤ length room.now }
 {
-    console::print_sum(out, &room[..n])?;
-    console::print_sum(out, &room[n..])?;
-    console::write(out, b"\n")?;
-    print_text(out, &room[..n])
+    let (text, rest) = room.split_at(n);
+    console::print_sum(out, text)?;
+    console::print_sum(out, rest)?;
+    writeln!(out)?;
+    if text.len() <= SHOWN {
+        out.write_all(text)?;
+    }
+    Ok(())
 }
 
 fn print_case<W: Write>(out: &mut W, book: &[u8], room: &mut [u8]) -> io::Result<()> {
     fill(room);
-    let printed = text::print(book, room);
-    match printed {
-        reply::Answer::Done(n) => {
-            console::print_answer(out, 0, n)?;
-            print_room(out, room, within(n, room.len()))
-        }
-        reply::Answer::Refused(r) => {
-            console::print_answer(out, r.number, r.place)?;
-            print_room(out, room, 0)
-        }
+    let answer = text::print(book, room);
+    console::print_answer(out, answer)?;
+    match answer {
+        reply::Answer::Done(n) => print_room(out, room, n),
+        reply::Answer::Refused(_) => print_room(out, room, 0),
     }
-}
-
-// Fills the book with a case and prints it; false where the input ends before.
-fn fill_and_print<R: Read, W: Write>(
-    input: &mut R,
-    out: &mut W,
-    book: &mut [u8],
-    room: &mut [u8],
-) -> io::Result<bool> {
-    if !console::filled(input, book)? {
-        return Ok(false);
-    }
-    print_case(out, book, room)?;
-    Ok(true)
 }
 
 // Reads the next case and prints its line; false where there is no whole case left.
@@ -81,15 +50,17 @@ fn run_case<R: Read, W: Write>(
     books: &mut [u8],
     rooms: &mut [u8],
 ) -> io::Result<bool> {
-    let r = console::next_length(input)?;
-    if r > rooms.len() {
+    let Some(room) = console::next_front(input, rooms)? else {
+        return Ok(false);
+    };
+    let Some(book) = console::next_front(input, books)? else {
+        return Ok(false);
+    };
+    if !console::filled(input, book)? {
         return Ok(false);
     }
-    let n = console::next_length(input)?;
-    if n > books.len() {
-        return Ok(false);
-    }
-    fill_and_print(input, out, &mut books[..n], &mut rooms[..r])
+    print_case(out, book, room)?;
+    Ok(true)
 }
 
 fn main(rt: HostRuntime) -> io::Result<()> {
@@ -97,9 +68,5 @@ fn main(rt: HostRuntime) -> io::Result<()> {
     let mut out = io::writer(&rt);
     let mut books = [0u8; 60001];
     let mut rooms = [0u8; 100000];
-    let mut turns: u32 = 100000;
-    while turns > 0 && run_case(&mut input, &mut out, &mut books, &mut rooms)? {
-        turns -= 1;
-    }
-    Ok(())
+    console::run_all(|| run_case(&mut input, &mut out, &mut books, &mut rooms))
 }

@@ -3,35 +3,13 @@
 // nothing past it: a longer input is refused as 1 at 0 whatever else is in it.
 #![tactic(auto)]
 
-ghost use Rattle.std.specs.Prelude.{◌≤◌, length};
-
 use std::io;
 use std::io::Write;
 
-fn refuse<W: Write>(out: &mut W, number: u8, place: usize) -> io::Result<()> {
-    console::write(out, b"refused ")?;
-    console::print_answer(out, number, place)?;
-    console::write(out, b"\n")
-}
-
-// What was written lies within the room.
-fn within(n: usize, size: usize) -> usize
-    ensures { result ≤ size }
-{
-    if n > size { size } else { n }
-}
-
-fn write_front<W: Write>(out: &mut W, room: &[u8], n: usize) -> io::Result<()>
-    requires { n ≤ length room.now }
-{
-    console::write(out, &room[..n])
-}
-
 fn run<W: Write>(out: &mut W, book: &[u8], room: &mut [u8]) -> io::Result<()> {
-    let printed = text::print(book, room);
-    match printed {
-        reply::Answer::Done(n) => write_front(out, room, within(n, room.len())),
-        reply::Answer::Refused(r) => refuse(out, r.number, r.place),
+    match text::print(book, room) {
+        reply::Answer::Done(n) => out.write_all(&room[..n]),
+        reply::Answer::Refused(r) => writeln!(out, "refused {} at {}", r.number, r.place),
     }
 }
 

@@ -1,26 +1,15 @@
-use Rattle.std.proofs.Common.{arith, length-set, sym, ◌∙◌}
-use Rattle.console.proofs.Laws.{again-more, again-none, again-full}
+use Rattle.std.proofs.Common.{rules, arith, ◌+◌, ◌-◌}
+use Rattle.console.proofs.Laws.{again-more, again-done}
 use Rattle.console.proofs.put_again.Goals as goal
 
-pub loop-left-preserved : goal.loop-left-preserved
-loop-left-preserved c =
+pub loop-i-preserved : goal.loop-i-preserved
+loop-i-preserved c =
     let a = c.args in
-    let t = c.loop-left in (
-      simp length-set (omega arith),
-      omega arith,
-      omega arith,
-      omega arith,
-      again-more t.left a.count t.end t.room t.invariant.4 (omega arith) c.room-1.given,
-    )
+    let t = c.loop-i in
+    again-more (a.at + a.more - t.i) _ a.count t.i t.room t.invariant (omega arith) (search rules)
 
-pub returns-else-end-room : goal.returns-else-end-room
-returns-else-end-room c =
+pub returns : goal.returns
+returns c =
     let a = c.args in
-    let t = c.loop-left in
-    (sym (again-full t.left a.count t.end t.room (omega arith)) ∙ t.invariant.4, record { within = omega arith; most = omega arith; all = λ h. omega arith })
-
-pub returns-after-loop-left : goal.returns-after-loop-left
-returns-after-loop-left c =
-    let a = c.args in
-    let t = c.loop-left in
-    (again-none t.left a.count t.end t.room t.invariant.4 (omega arith), record { within = omega arith; most = omega arith; all = λ h. omega arith })
+    let t = c.loop-i in
+    (again-done (a.at + a.more - t.i) a.count t.i t.room t.invariant (λ h. omega arith), omega arith)

@@ -1,9 +1,6 @@
--- `put_list` is safe and ends. The room keeps its length, and the end lies within it; the measure is the pieces left.
-use Rattle.std.proofs.Common.{◌≤◌, ◌≡◌, length}
+-- The end lies within the room.
+use Rattle.std.proofs.Common.{◌≤◌, length}
 use Rattle.console.proofs.put_list.Given as goal
 
-abbrev pub invariant-loop-left : goal.invariant-loop-left
-invariant-loop-left g l = (length l.initial.room ≡ length l.room) × (l.end ≤ length l.initial.room)
-
-abbrev pub decreases-loop-left : goal.decreases-loop-left
-decreases-loop-left g l = l.left
+abbrev pub invariant-loop : goal.invariant-loop
+invariant-loop g l = l.end ≤ length l.initial.room

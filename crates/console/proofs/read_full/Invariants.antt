@@ -1,12 +1,11 @@
--- The room keeps its length, what is done lies within it, and its front is what the reader gave; the measure is what is left of the room.
-use Rattle.std.proofs.Common.{◌-◌, ◌≤◌, ◌≡◌, length, take}
+-- What is done lies within the room, whose front is what the reader gave; the measure is what is left of the room.
+use Rattle.std.proofs.Common.{◌-◌, ◌≤◌, length, take}
 use Rattle.std.specs.Io.KnownBytes.{Consumes}
 use Rattle.console.proofs.read_full.Given as goal
 
 abbrev pub invariant-loop-done : goal.invariant-loop-done
 invariant-loop-done g l =
-    (length l.room ≡ length l.initial.room) × (l.done ≤ length l.initial.room)
-    × Consumes (g.R.Read.remaining l.initial.input) (g.R.Read.remaining l.input) (take l.done l.room)
+    (l.done ≤ length l.initial.room) × Consumes (g.R.Read.remaining l.initial.input) (g.R.Read.remaining l.input) (take l.done l.room)
 
 abbrev pub decreases-loop-done : goal.decreases-loop-done
 decreases-loop-done g l = length l.initial.room - l.done

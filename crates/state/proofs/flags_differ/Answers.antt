@@ -12,17 +12,17 @@ loop-j-preserved c =
     let a = c.args in
     let t = c.loop-j in
     let n = bits-length a.n a.flags.now in
-    (omega arith, via t.invariant.1 (diff-later a.list.now a.at _ t.j (omega arith) (omega arith) c.flag_same.ensures (sym (bits_at a.n a.flags.now t.j (omega arith))) c.if-flag_same.true refl))
+    (omega arith, via t.invariant.1 (diff-later a.list.now a.at _ t.j (omega arith) (omega arith) c.flag_same.ensures (sym (bits_at a.n a.flags.now t.j (omega arith))) c.if-not-flag_same.false refl))
 
-pub returns-else-flag_same : goal.returns-else-flag_same
-returns-else-flag_same c =
+pub returns-then-not-flag_same : goal.returns-then-not-flag_same
+returns-then-not-flag_same c =
     let a = c.args in
     let t = c.loop-j in
     let n = bits-length a.n a.flags.now in
-    via t.invariant.1 (diff-here a.list.now a.at _ t.j (omega arith) (omega arith) c.flag_same.ensures (sym (bits_at a.n a.flags.now t.j (omega arith))) c.if-flag_same.false refl)
+    via t.invariant.1 (diff-here a.list.now a.at _ t.j (omega arith) (omega arith) c.flag_same.ensures (sym (bits_at a.n a.flags.now t.j (omega arith))) c.if-not-flag_same.true refl)
 
 pub returns : goal.returns
 returns c =
     let a = c.args in
     let n = bits-length a.n a.flags.now in
-    via c.loop-j.invariant.1 (diff-none a.list.now a.at _ c.loop-j.j (omega arith) refl)
+    via c.loop-j.invariant.1 (diff-none a.list.now a.at _ c.loop-j.j (omega arith) (omega arith))

@@ -11,17 +11,17 @@ loop-j-preserved c =
     let a = c.args in (
       omega arith,
       t.invariant.1,
-      inside-more _ _ t.j t.invariant.2 (window-inside a.list.now a.at a.n t.j _ _ (omega arith) c.place_window.ensures c.inside_at.ensures c.if-inside_at.true),
+      inside-more _ _ t.j t.invariant.2 (window-inside a.list.now a.at a.n t.j _ _ (omega arith) c.place_window.ensures c.inside_at.ensures c.if-not-inside_at.false),
     )
 
-pub returns-else-inside_at : goal.returns-else-inside_at
-returns-else-inside_at c =
+pub returns-then-not-inside_at : goal.returns-then-not-inside_at
+returns-then-not-inside_at c =
     let t = c.loop-j in
     let a = c.args in
     sym (out_first _ a.at (take a.n (drop a.at a.list.now)) t.j
     (rw (length-take-le a.n (drop a.at a.list.now) (rw length-drop (omega (arith, t.invariant.1)))) (omega arith))
     t.invariant.2
-    (window-inside a.list.now a.at a.n t.j _ _ (omega arith) c.place_window.ensures c.inside_at.ensures c.if-inside_at.false))
+    (window-inside a.list.now a.at a.n t.j _ _ (omega arith) c.place_window.ensures c.inside_at.ensures c.if-not-inside_at.true))
 
 pub returns : goal.returns
 returns c =
@@ -29,4 +29,4 @@ returns c =
     let a = c.args in
     let m : length (take a.n (drop a.at a.list.now)) ≡ a.n = length-take-le a.n (drop a.at a.list.now) (rw length-drop (omega (arith, t.invariant.1))) in
     let e : t.j ≡ a.n = omega (arith, t.invariant.0) in
-    ap (λ i. a.at + i) (e ∙ sym m) ∙ sym (out-all _ a.at _ (rw m (rw e at t.invariant.2)))
+    ap (λ i. a.at + i) (sym m) ∙ sym (out-all _ a.at _ (rw m (rw e at t.invariant.2)))

@@ -1,11 +1,8 @@
-use Rattle.std.proofs.Common.{drop, ◌*◌, ◌+◌, ◌-◌, ◌≡◌, ◌≤◌}
+use Rattle.std.proofs.Common.{drop, ◌*◌, ◌+◌, ◌≡◌, ◌≤◌}
 use Rattle.lists.specs.Trace.{sum}
-use Rattle.book.specs.Meaning.{book_in}
+use Rattle.book.specs.Held.{meant}
 use Rattle.state.proofs.size.Given as goal
 
 abbrev pub invariant-loop-r : goal.invariant-loop-r
 invariant-loop-r l =
-    (l.r ≤ l.n) × (l.total ≤ l.n + 8 * l.r) × (l.total + sum (drop l.r (book_in l.book l.h).arities) ≡ l.n + sum (book_in l.book l.h).arities)
-
-abbrev pub decreases-loop-r : goal.decreases-loop-r
-decreases-loop-r l = l.n - l.r
+    (l.total ≤ l.book.header.relations + 8 * l.r) × (l.total + sum (drop l.r (meant l.book).arities) ≡ l.book.header.relations + sum (meant l.book).arities)
