@@ -2,128 +2,93 @@
 #![tactic(auto)]
 
 ghost use Rattle.std.specs.Prelude.{◌≡◌, ◌⊎◌, ◌<◌, get_or};
-ghost use Rattle.meaning.specs.Book.{none_such};
+ghost use Rattle.meaning.specs.Book.{none_such, variable_window};
 ghost use Rattle.sexp.specs.Sexp.{each, over};
 ghost use Rattle.put.specs.Shows.{Lists};
-ghost use Rattle.book.specs.declared.Reading.TheVariants.{Good};
-ghost use Rattle.book.specs.Read.{read};
-ghost use Rattle.book.specs.Meaning.{book_in};
-ghost use Rattle.book.specs.Windows.{windows_of};
+ghost use Rattle.book.specs.Held.{meant};
 ghost use Rattle.script.specs.Lines as lines;
+ghost use Rattle.term.specs.Name.{is_after};
 ghost use Rattle.part.specs.Part.{Stands, atom_of, body_of};
 
-use put::{put, put_all};
-use term::{constraint, limits, same, word_in};
+use book::Book;
+use put::Printer;
+use term::{Name, When, constraint, limits, same};
 
 // The limits of the v variables of clause k.
-fn windows(room: &mut [u8], at: usize, book: &[u8], h: book::Header, k: usize, v: usize) -> usize
-    ensures { Lists room.old room.new at result (each v (lines.input_limits (windows_of book.now h k) k)) }
+fn windows(out: &mut Printer, book: &Book, k: usize, v: usize)
+    ensures { Lists out.old out.new (each v (lines.input_limits (variable_window (meant book.now) (get_or (meant book.now).clauses k none_such)) k)) }
 {
-    let mut a = at;
     for i in 0..v {
-        let o = book::variable_window(book, h, k, i);
-        a = limits(room, a, term::Name::Item(term::Row::Inputs(k), i), o);
+        limits(out, Name::Input(k, i), book.variable_window(k, i));
     }
-    a
 }
 
 // Relation r with the arguments after the place p, before the step or after it.
-fn atom(
-    room: &mut [u8],
-    at: usize,
-    book: &[u8],
-    h: book::Header,
-    k: usize,
-    r: usize,
-    p: usize,
-    after: bool,
-) -> usize
-    requires accepted { read book.now ≡ Good h }
-    requires stands { Stands book.now h r p }
-    ensures { Lists room.old room.new at result (lines.atom_items after k (atom_of book.now h r p)) }
+fn atom(out: &mut Printer, book: &Book, k: usize, r: usize, p: usize, when: When)
+    requires { Stands book.now r p }
+    ensures { Lists out.old out.new (lines.atom_items (is_after when) k (atom_of book.now r p)) }
 {
-    let mut a = put(room, at, b' ');
-    a = word_in(room, a, term::Name::Flag(r), after);
-    let n = book::arity_of(book, h, r);
-    for i in 0..n {
-        let m = term::Name::Item(term::Row::Places(r), i);
-        let x = term::Name::Item(term::Row::Inputs(k), book[p + 1 + i] as usize);
-        a = same(room, a, m, after, x);
+    out.put(b' ');
+    Name::Flag(r).print_when(out, when);
+    let arguments = &book.bytes[p + 1..p + 1 + book.arity(r)];
+    for (i, x) in arguments.iter().enumerate() {
+        same(out, Name::Place(r, i), when, Name::Input(k, *x as usize));
     }
-    a
 }
 
-// The body, which is relation b with the arguments after the place p, or none.
-fn body(
-    room: &mut [u8],
-    at: usize,
-    book: &[u8],
-    h: book::Header,
-    k: usize,
-    b: u8,
-    p: usize,
-) -> usize
-    requires accepted { read book.now ≡ Good h }
-    requires fact { (b ≡ 255) ⊎ Stands book.now h b p }
-    ensures { Lists room.old room.new at result (lines.body_items k (body_of book.now h b p)) }
+// The body, which is relation r with the arguments after the place p, or none.
+fn body(out: &mut Printer, book: &Book, k: usize, r: u8, p: usize)
+    requires { (r ≡ 255) ⊎ Stands book.now r p }
+    ensures { Lists out.old out.new (lines.body_items k (body_of book.now r p)) }
 {
-    if b == 255 {
-        return at;
+    if r != 255 {
+        atom(out, book, k, r as usize, p, When::Before);
     }
-    atom(room, at, book, h, k, b as usize, p, false)
 }
 
 // Relation r keeps its flag and its m places.
-fn frame(room: &mut [u8], at: usize, r: usize, m: usize) -> usize
-    ensures { Lists room.old room.new at result (lines.frame r m) }
+fn frame(out: &mut Printer, r: usize, m: usize)
+    ensures { Lists out.old out.new (lines.frame r m) }
 {
-    let f = term::Name::Flag(r);
-    let mut a = same(room, at, f, true, f);
+    let f = Name::Flag(r);
+    same(out, f, When::After, f);
     for i in 0..m {
-        let n = term::Name::Item(term::Row::Places(r), i);
-        a = same(room, a, n, true, n);
+        let n = Name::Place(r, i);
+        same(out, n, When::After, n);
     }
-    a
 }
 
 // The same, unless r is h.
-fn frame_but(room: &mut [u8], at: usize, h: usize, r: usize, m: usize) -> usize
-    ensures { Lists room.old room.new at result (lines.frame_but h r m) }
+fn frame_but(out: &mut Printer, h: usize, r: usize, m: usize)
+    ensures { Lists out.old out.new (lines.frame_but h r m) }
 {
-    if r == h {
-        return at;
+    if r != h {
+        frame(out, r, m);
     }
-    frame(room, at, r, m)
 }
 
-// Every relation but f keeps its flag and places.
-fn frames(room: &mut [u8], at: usize, book: &[u8], h: book::Header, f: usize) -> usize
-    requires { read book.now ≡ Good h }
-    ensures { Lists room.old room.new at result (over 0 (book_in book.now h).arities (lines.frame_but f)) }
+// Every relation but h keeps its flag and places.
+fn frames(out: &mut Printer, book: &Book, h: usize)
+    ensures { Lists out.old out.new (over 0 (meant book.now).arities (lines.frame_but h)) }
 {
-    let mut a = at;
-    let n = h.relations as usize;
-    for r in 0..n {
-        a = frame_but(room, a, f, r, book::arity_of(book, h, r));
+    for r in 0..book.relations() {
+        frame_but(out, h, r, book.arity(r));
     }
-    a
 }
 
 // The part of clause k.
-pub fn part(room: &mut [u8], at: usize, book: &[u8], h: book::Header, k: usize) -> usize
-    requires accepted { read book.now ≡ Good h }
-    requires k_lt_count { k < h.count }
-    ensures { Lists room.old room.new at result (lines.clause_part_of (book_in book.now h) k (get_or (book_in book.now h).clauses k none_such)) }
+pub fn part(out: &mut Printer, book: &Book, k: usize)
+    requires { k < book.now.header.count }
+    ensures { Lists out.old out.new (lines.clause_part_of (meant book.now) k (get_or (meant book.now).clauses k none_such)) }
 {
-    let l = book::record(book, h, k);
-    let v = l.variables;
-    let rule = l.rule;
-    let a = put_all(room, at, b" (and true");
-    let a = windows(room, a, book, h, k, v as usize);
-    let a = put(room, a, b' ');
-    let a = constraint(room, a, book, k, v, rule);
-    let a = body(room, a, book, h, k, l.body, l.body_at);
-    let a = atom(room, a, book, h, k, l.head as usize, l.head_at, true);
-    let a = frames(room, a, book, h, l.head as usize);
-    put(room, a, b')')
+    let l = book.record(k);
+    let head = l.head as usize;
+    out.put_all(b" (and true");
+    windows(out, book, k, l.variables as usize);
+    out.put(b' ');
+    constraint(out, book.bytes, k, l.variables, l.rule);
+    body(out, book, k, l.body, l.body_at);
+    atom(out, book, k, head, l.head_at, When::After);
+    frames(out, book, head);
+    out.put(b')');
 }

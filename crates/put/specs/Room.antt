@@ -1,5 +1,5 @@
--- What it means to write into a lent room.
-use Rattle.std.specs.Prelude.{◌≡◌, List, [], ◌∷◌, ℕ, ◌+◌, ◌≤◌, min, length, set}
+-- Writing into a room, and where a position stops.
+use Rattle.std.specs.Prelude.{List, [], ◌∷◌, ℕ, ◌+◌, min, set}
 
 -- d with t stored from index at on; what lies outside d is dropped
 unfoldable pub paste : {A : Type 0} → List A → ℕ → List A → List A
@@ -12,9 +12,3 @@ top = 18446744073709551615
 
 abbrev pub sat : ℕ → ℕ
 sat n = min n top
-
--- writing t at the position at takes the room from d to e and the position to r
-pub record Wrote {A : Type 0} (d e : List A) (at r : ℕ) (t : List A) : Type 0 where
-  pub fits : length d ≤ top
-  pub next : r ≡ sat (at + length t)
-  pub room : e ≡ paste d at t

@@ -1,82 +1,83 @@
 // Printing into a lent room. A position past the room is counted and nothing is stored there, so that a text is measured by printing it into an empty room.
 #![tactic(auto)]
 
-ghost use Rattle.std.specs.Prelude.{◌≡◌, [], ◌∷◌, nat_abs};
-ghost use Rattle.put.specs.Room.{Wrote};
+ghost use Rattle.std.specs.Prelude.{◌≡◌, ◌≤◌, [], ◌∷◌, length};
+ghost use Rattle.put.specs.Room.{top};
 ghost use Rattle.put.specs.Digits.{digits};
 ghost use Rattle.put.specs.Number.{num};
-ghost use Rattle.put.specs.Shows.{Shows};
 
-// The largest position.
-const TOP: usize = 18446744073709551615;
-
-// One byte.
-pub fn put(room: &mut [u8], at: usize, b: u8) -> usize
-    ensures { Wrote room.old room.new at result (b ∷ []) }
-{
-    if at < room.len() {
-        room[at] = b;
-        at + 1
-    } else if at < TOP {
-        at + 1
-    } else {
-        at
-    }
+// A lent room, and where printing stands in it.
+#[derive(Drop)]
+pub struct Printer<'a> {
+    room: &'a mut [u8],
+    at: usize,
+    pub ghost fits: { length room.now ≤ top },
+    pub ghost there: { at ≤ top },
 }
 
-// A string of bytes.
-pub fn put_all(room: &mut [u8], at: usize, bytes: &[u8]) -> usize
-    ensures { Wrote room.old room.new at result bytes.now }
-{
-    let mut o = at;
-    let mut j = 0;
-    while j < bytes.len() {
-        o = put(room, o, bytes[j]);
-        j += 1;
-    }
-    o
-}
+impl<'a> Printer<'a> {
+    ghost use Rattle.put.specs.Shows.{Begins, Wrote, Shows};
 
-// A number's decimal digits, the most significant first.
-pub fn decimal(room: &mut [u8], at: usize, n: usize) -> usize
-    ensures { Wrote room.old room.new at result (digits n) }
-{
-    if n < 10 {
-        put(room, at, n as u8 + 48)
-    } else {
-        let next = decimal(room, at, n / 10);
-        put(room, next, (n % 10) as u8 + 48)
+    // Begins at the front of a room.
+    pub fn new(room: &'a mut [u8]) -> Printer<'a>
+        ensures { Begins room.entry result }
+    {
+        Printer { room, at: 0 }
     }
-}
 
-// How far a number is from zero.
-fn size(n: i64) -> usize
-    ensures { result ≡ nat_abs n }
-{
-    if n < 0 {
-        (-(n + 1)) as usize + 1
-    } else {
-        n as usize
+    // How much is printed.
+    pub fn at(&self) -> usize
+        ensures { result ≡ self.now.at }
+    {
+        self.at
     }
-}
 
-// A number below zero as `(- 5)`, any other by its digits.
-pub fn signed(room: &mut [u8], at: usize, n: i64) -> usize
-    ensures { Shows room.old room.new at result (num n) }
-{
-    let m = size(n);
-    if n < 0 {
-        let a = put_all(room, at, b"(- ");
-        let a = decimal(room, a, m);
-        put(room, a, b')')
-    } else {
-        decimal(room, at, m)
+    // One byte.
+    pub fn put(&mut self, b: u8)
+        ensures { Wrote self.old self.new (b ∷ []) }
+    {
+        let at = self.at;
+        self.at = at.saturating_add(1);
+        if at < self.room.len() {
+            self.room[at] = b;
+        }
     }
-}
 
-// The same of a number of 32 bits.
-pub fn signed32(room: &mut [u8], at: usize, n: i32) -> usize
-    ensures { Shows room.old room.new at result (num n) }
-{
-    signed(room, at, n as i64)
+    // A string of bytes.
+    pub fn put_all(&mut self, bytes: &[u8])
+        ensures { Wrote self.old self.new bytes.now }
+    {
+        let at = self.at;
+        self.at = at.saturating_add(bytes.len());
+        if at < self.room.len() {
+            let held = bytes.len().min(self.room.len() - at);
+            self.room[at..at + held].copy_from_slice(&bytes[..held]);
+        }
+    }
+
+    // A number's decimal digits, the most significant first.
+    pub fn decimal(&mut self, n: usize)
+        ensures { Wrote self.old self.new (digits n) }
+    {
+        if n < 10 {
+            self.put(n as u8 + 48);
+        } else {
+            self.decimal(n / 10);
+            self.put((n % 10) as u8 + 48);
+        }
+    }
+
+    // A number below zero as `(- 5)`, any other by its digits.
+    pub fn signed(&mut self, n: i64)
+        ensures { Shows self.old self.new (num n) }
+    {
+        let m = n.unsigned_abs() as usize;
+        if n < 0 {
+            self.put_all(b"(- ");
+            self.decimal(m);
+            self.put(b')');
+        } else {
+            self.decimal(m);
+        }
+    }
 }

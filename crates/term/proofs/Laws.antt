@@ -1,6 +1,5 @@
 -- Laws of the names that the code hands on, and of printing a constraint.
 use mathlib.Core.Path.{◌≡◌, refl, sym, ap, ◌∙◌}
-use mathlib.Core.Bool.{Bool, true, false}
 use mathlib.Core.List.{List, ◌∷◌, ◌++◌}
 use Prim.Native.Nat.{ℕ, zero, suc, ◌+◌, ◌*◌, ◌^◌, ◌≤◌, ◌<◌}
 use native.Mathlib.Omega.{arith}
@@ -19,64 +18,48 @@ use Rattle.cursor.specs.Sound.{CompareThere}
 use Rattle.sexp.specs.Bytes.{bytes}
 use Rattle.sexp.specs.Sexp.{Sexps, onto, each, over}
 use Rattle.sexp.specs.Split.{each_same}
-use Rattle.put.specs.Room.{Wrote}
+use Rattle.put.specs.declared.Printer.{Printer}
 use Rattle.put.specs.Digits.{digits}
 use Rattle.meaning.specs.Book as meant
 use Rattle.book.specs.declared.Window.{Window}
 use Rattle.book.specs.Windows.{Windowed, window_of, windowed-is}
 use Rattle.put.specs.Number.{num}
-use Rattle.put.specs.Shows.{Shows, Lists}
+use Rattle.put.specs.Shows.{Wrote, Shows, Lists}
 use Rattle.put.proofs.Laws.{relist, reshow}
-use Rattle.script.specs.Names.{flag_name, place_name, input_name, next, in_state}
+use Rattle.script.specs.Names.{flag_name, place_name, input_name}
 use Rattle.script.specs.Terms.{limits, product, compared}
-use Rattle.term.specs.declared.Row.{Row}
-use Rattle.term.specs.declared.Row.TheVariants.{Places, Inputs}
 use Rattle.term.specs.declared.Name as Name'
-use Rattle.term.specs.declared.Name.TheVariants.{Flag, Item}
-use Rattle.term.specs.Name.{item_name, name_of}
+use Rattle.term.specs.declared.Name.TheVariants.{Flag, Place, Input}
+use Rattle.term.specs.declared.Rule.{Rule}
+use Rattle.term.specs.Name.{name_of}
 use Rattle.term.specs.Drawn.{zero_of, compared_of}
 
-module _ {d e : List ℕ} {at r : ℕ} where
-  pub item-place : (row : Row) (i : ℕ) {m : ℕ} → row ≡ Places m → Wrote d e at r (112 ∷ digits m ++ bytes "_" ++ digits i) → Wrote d e at r (item_name row i)
-  unfolding item_name place_name
-  item-place row i h u = rw h u
-
-  pub item-input : (row : Row) (i : ℕ) {m : ℕ} → row ≡ Inputs m → Wrote d e at r (121 ∷ digits m ++ bytes "_" ++ digits i) → Wrote d e at r (item_name row i)
-  unfolding item_name input_name
-  item-input row i h u = rw h u
-
-  pub name-flag : (n : Name'.Name) {m : ℕ} → n ≡ Flag m → Wrote d e at r (108 ∷ digits m) → Wrote d e at r (name_of n)
+module _ {p q : Printer} where
+  pub name-flag : (n : Name'.Name) {r : ℕ} → n ≡ Flag r → Wrote p q (108 ∷ digits r) → Wrote p q (name_of n)
   unfolding name_of flag_name
   name-flag n h u = rw h u
 
-  pub name-item : (n : Name'.Name) {row : Row} {i : ℕ} → n ≡ Item row i → Wrote d e at r (item_name row i) → Wrote d e at r (name_of n)
-  unfolding name_of
-  name-item n h u = rw h u
+  pub name-place : (n : Name'.Name) {r i : ℕ} → n ≡ Place r i → Wrote p q (112 ∷ digits r ++ bytes "_" ++ digits i) → Wrote p q (name_of n)
+  unfolding name_of place_name
+  name-place n h u = rw h u
 
-  pub state-after : (after : Bool) (n : List ℕ) → after ≡ true → Wrote d e at r (n ++ bytes "n") → Wrote d e at r (in_state after n)
-  unfolding in_state next
-  state-after after n h u = rw h u
-
-  pub state-before : (after : Bool) (n : List ℕ) → after ≡ false → Wrote d e at r n → Wrote d e at r (in_state after n)
-  unfolding in_state
-  state-before after n h u = rw h u
-
-pub ruleset names = (item-place, item-input, name-item)
+  pub name-input : (n : Name'.Name) {k i : ℕ} → n ≡ Input k i → Wrote p q (121 ∷ digits k ++ bytes "_" ++ digits i) → Wrote p q (name_of n)
+  unfolding name_of input_name
+  name-input n h u = rw h u
 
 -- the limits by a window that the code asked for
-pub limits-asked : {m : meant.Window} {w : Window} (n : List ℕ) {d e : List ℕ} {at r : ℕ} → Windowed m w →
-    Lists d e at r (limits (window_of w) n) → Lists d e at r (limits m n)
+pub limits-asked : {m : meant.Window} {w : Window} (n : List ℕ) {p q : Printer} → Windowed m w → Lists p q (limits (window_of w) n) → Lists p q (limits m n)
 limits-asked n x u = relist (ap (λ (o : meant.Window). limits o n) (windowed-is x)) u
 
 -- ---- a sum
 
 -- a number that was read, handed on as an i64
-module _ {w : Width} {x r : ℤ} {d e : List ℕ} {at m : ℕ} (h : mag r < 2 ^ hbits w64) (p : Signed w x r) where
-  pub read-num : Shows d e at m (num (to_z w64 (of_z w64 r))) → Shows d e at m (num x)
-  read-num u = reshow (ap num (own w64 r h ∙ p.is)) u
+module _ {w : Width} {x r : ℤ} {p q : Printer} (h : mag r < 2 ^ hbits w64) (s : Signed w x r) where
+  pub read-num : Shows p q (num (to_z w64 (of_z w64 r))) → Shows p q (num x)
+  read-num u = reshow (ap num (own w64 r h ∙ s.is)) u
 
-  pub read-product : (k i : ℕ) → Lists d e at m (product k i (to_z w64 (of_z w64 r))) → Lists d e at m (product k i x)
-  read-product k i u = relist (ap (product k i) (own w64 r h ∙ p.is)) u
+  pub read-product : (k i : ℕ) → Lists p q (product k i (to_z w64 (of_z w64 r))) → Lists p q (product k i x)
+  read-product k i u = relist (ap (product k i) (own w64 r h ∙ s.is)) u
 
 -- the product of variable i, out of the bytes
 unfoldable pub product_at : List ℕ → ℕ → ℕ → ℕ → Sexps
@@ -99,12 +82,12 @@ products-are s k v p = rw (coefficients-count v s p) (each_same v _ _ (λ i l. a
 
 -- ---- a comparison
 
-module _ (s : List ℕ) (k v : ℕ) (n : Comparison) {x : Atom} {d e : List ℕ} {at r : ℕ} where
-  pub compared-low : n ≡ AtMost x → Wrote d e at r (bytes "(<=" ++ zero_of s k v x.at) → Shows d e at r (compared_of s k v n)
+module _ (r : Rule) (n : Comparison) {x : Atom} {p q : Printer} where
+  pub compared-low : n ≡ AtMost x → Wrote p q (bytes "(<=" ++ zero_of r x.at) → Shows p q (compared_of r n)
   unfolding compared_of compared onto
   compared-low h u = rw h (record { text = u })
 
-  pub compared-nil : n ≡ Equal x → Wrote d e at r (bytes "(=" ++ zero_of s k v x.at) → Shows d e at r (compared_of s k v n)
+  pub compared-nil : n ≡ Equal x → Wrote p q (bytes "(=" ++ zero_of r x.at) → Shows p q (compared_of r n)
   unfolding compared_of compared onto
   compared-nil h u = rw h (record { text = u })
 

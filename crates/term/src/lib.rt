@@ -4,247 +4,240 @@
 ghost use Rattle.std.specs.Prelude.{[], ◌∷◌, ◌++◌, ◌+◌, ◌*◌, ◌≤◌, length};
 ghost use Rattle.sexp.specs.Bytes.{bytes};
 ghost use Rattle.sexp.specs.Sexp.{end, ◌&◌};
-ghost use Rattle.put.specs.Room.{Wrote};
 ghost use Rattle.put.specs.Digits.{digits};
-ghost use Rattle.put.specs.Shows.{Shows, Lists};
-ghost use Rattle.cursor.specs.Tree.{sum_of, tree_at};
+ghost use Rattle.put.specs.Shows.{Wrote, Shows, Lists};
+ghost use Rattle.cursor.specs.Tree.{tree_at};
 ghost use Rattle.cursor.specs.Sound.{CompareThere, RemainsThere, IsTree};
 ghost use Rattle.cursor.specs.Meaning.{tree_in};
 ghost use Rattle.book.specs.Windows.{window_of};
 ghost use Rattle.script.specs.Names.{in_state};
 ghost use Rattle.script.specs.Terms as term;
-ghost use Rattle.term.specs.Name.{item_name, name_of};
-ghost use Rattle.term.specs.Drawn.{zero_of, compared_of, remains_of, Drawn, DrawnTwo};
+ghost use Rattle.term.specs.Name.{name_of, is_after};
+ghost use Rattle.term.specs.Drawn.{sum_in, zero_of, compared_of, remains_of, Drawn, DrawnTwo};
 
-use cursor::{Comparison, Cursor, Node, NodeStep, Remains};
-use put::{decimal, put, put_all, signed, signed32};
+use cursor::{Comparison, Cursor, Node, Remains};
+use put::Printer;
 
-// The places of a relation, or the variables of a clause.
-#[derive(Clone, Copy)]
-pub enum Row {
-    Places(usize),
-    Inputs(usize),
-}
-
-// A relation's flag, or one of a row.
+// A relation's flag, one of its places, or one of a clause's variables.
 #[derive(Clone, Copy)]
 pub enum Name {
     Flag(usize),
-    Item(Row, usize),
+    Place(usize, usize),
+    Input(usize, usize),
+}
+
+// Before a step, or after it.
+#[derive(Clone, Copy, PartialEq, Eq)]
+pub enum When {
+    Before,
+    After,
 }
 
 // A letter and two numbers.
-fn numbered(room: &mut [u8], at: usize, b: u8, m: usize, n: usize) -> usize
-    ensures { Wrote room.old room.new at result (b ∷ digits m ++ bytes "_" ++ digits n) }
+fn numbered(out: &mut Printer, b: u8, m: usize, n: usize)
+    ensures { Wrote out.old out.new (b ∷ digits m ++ bytes "_" ++ digits n) }
 {
-    let a = put(room, at, b);
-    let a = decimal(room, a, m);
-    let a = put(room, a, b'_');
-    decimal(room, a, n)
+    out.put(b);
+    out.decimal(m);
+    out.put(b'_');
+    out.decimal(n);
 }
 
-// One of a row.
-pub fn item(room: &mut [u8], at: usize, row: Row, i: usize) -> usize
-    ensures { Wrote room.old room.new at result (item_name row i) }
-{
-    match row {
-        Row::Places(r) => numbered(room, at, b'p', r, i),
-        Row::Inputs(k) => numbered(room, at, b'y', k, i),
-    }
-}
-
-// A name.
-pub fn word(room: &mut [u8], at: usize, n: Name) -> usize
-    ensures { Wrote room.old room.new at result (name_of n) }
-{
-    match n {
-        Name::Flag(r) => {
-            let a = put(room, at, b'l');
-            decimal(room, a, r)
+impl Name {
+    // The name.
+    pub fn print(self, out: &mut Printer)
+        ensures { Wrote out.old out.new (name_of self) }
+    {
+        match self {
+            Name::Flag(r) => {
+                out.put(b'l');
+                out.decimal(r);
+            }
+            Name::Place(r, i) => numbered(out, b'p', r, i),
+            Name::Input(k, i) => numbered(out, b'y', k, i),
         }
-        Name::Item(row, i) => item(room, at, row, i),
     }
-}
 
-// A name before a step, or after it.
-pub fn word_in(room: &mut [u8], at: usize, n: Name, after: bool) -> usize
-    ensures { Wrote room.old room.new at result (in_state after (name_of n)) }
-{
-    let a = word(room, at, n);
-    if after {
-        return put(room, a, b'n');
+    // The name before a step, or after it.
+    pub fn print_when(self, out: &mut Printer, when: When)
+        ensures { Wrote out.old out.new (in_state (is_after when) (name_of self)) }
+    {
+        self.print(out);
+        match when {
+            When::Before => {}
+            When::After => out.put(b'n'),
+        }
     }
-    a
 }
 
 // The two limits of a name.
-pub fn limits(room: &mut [u8], at: usize, n: Name, o: book::Window) -> usize
-    ensures { Lists room.old room.new at result (term.limits (window_of o) (name_of n)) }
+pub fn limits(out: &mut Printer, n: Name, o: book::Window)
+    ensures { Lists out.old out.new (term.limits (window_of o) (name_of n)) }
 {
-    let a = put_all(room, at, b" (<= ");
-    let a = signed32(room, a, o.lo);
-    let a = put(room, a, b' ');
-    let a = word(room, a, n);
-    let a = put_all(room, a, b") (<= ");
-    let a = word(room, a, n);
-    let a = put(room, a, b' ');
-    let a = signed32(room, a, o.hi);
-    put(room, a, b')')
+    out.put_all(b" (<= ");
+    out.signed(o.lo.into());
+    out.put(b' ');
+    n.print(out);
+    out.put_all(b") (<= ");
+    n.print(out);
+    out.put(b' ');
+    out.signed(o.hi.into());
+    out.put(b')');
 }
 
 // That the name m, before a step or after it, is the name n.
-pub fn same(room: &mut [u8], at: usize, m: Name, after: bool, n: Name) -> usize
-    ensures { Lists room.old room.new at result (term.same (in_state after (name_of m)) (name_of n) & end) }
+pub fn same(out: &mut Printer, m: Name, when: When, n: Name)
+    ensures { Lists out.old out.new (term.same (in_state (is_after when) (name_of m)) (name_of n) & end) }
 {
-    let a = put_all(room, at, b" (= ");
-    let a = word_in(room, a, m, after);
-    let a = put(room, a, b' ');
-    let a = word(room, a, n);
-    put(room, a, b')')
+    out.put_all(b" (= ");
+    m.print_when(out, when);
+    out.put(b' ');
+    n.print(out);
+    out.put(b')');
 }
 
-// A coefficient times variable i of clause k.
-fn product(room: &mut [u8], at: usize, k: usize, i: usize, c: i64) -> usize
-    ensures { Lists room.old room.new at result (term.product k i c) }
-{
-    let a = put_all(room, at, b" (* ");
-    let a = signed(room, a, c);
-    let a = put(room, a, b' ');
-    let a = item(room, a, Row::Inputs(k), i);
-    put(room, a, b')')
-}
-
-// The sum of clause k whose v coefficients and constant stand at p.
-fn sum(room: &mut [u8], at: usize, s: &[u8], k: usize, v: usize, p: usize) -> usize
-    requires { p + (v * 2 + 4) ≤ length s.now }
-    ensures { Shows room.old room.new at result (term.sum k (sum_of s.now v p)) }
-{
-    let a = put_all(room, at, b"(+ 0 ");
-    let mut o = signed(room, a, whole::i32_at(s, p + v * 2));
-    for i in 0..v {
-        o = product(room, o, k, i, whole::i16_at(s, p + i * 2));
-    }
-    put(room, o, b')')
-}
-
-// A sum and zero, as they end a comparison.
-fn with_zero(room: &mut [u8], at: usize, s: &[u8], k: usize, v: usize, p: usize) -> usize
-    requires { p + (v * 2 + 4) ≤ length s.now }
-    ensures { Wrote room.old room.new at result (zero_of s.now k v p) }
-{
-    let a = put(room, at, b' ');
-    let a = sum(room, a, s, k, v, p);
-    put_all(room, a, b" 0)")
-}
-
-// A comparison of a sum with zero.
-fn compare(room: &mut [u8], at: usize, s: &[u8], k: usize, v: u8, n: Comparison) -> usize
-    requires { CompareThere s.now v n }
-    ensures { Shows room.old room.new at result (compared_of s.now k v n) }
-{
-    match n {
-        Comparison::AtMost(x) => {
-            let p = x.at;
-            let a = put_all(room, at, b"(<=");
-            with_zero(room, a, s, k, v as usize, p)
-        }
-        Comparison::Equal(x) => {
-            let p = x.at;
-            let a = put_all(room, at, b"(=");
-            with_zero(room, a, s, k, v as usize, p)
-        }
-    }
-}
-
-// What a sum leaves.
-fn remains(room: &mut [u8], at: usize, s: &[u8], k: usize, v: u8, m: Remains) -> usize
-    requires { RemainsThere s.now v m }
-    ensures { Shows room.old room.new at result (remains_of s.now k v m) }
-{
-    let p = m.sum.at;
-    let a = put_all(room, at, b"(and (<= 0 ");
-    let a = sum(room, a, s, k, v as usize, p);
-    let a = put_all(room, a, b") (= (mod ");
-    let a = sum(room, a, s, k, v as usize, p);
-    let a = put(room, a, b' ');
-    let a = decimal(room, a, m.d as usize);
-    let a = put_all(room, a, b") ");
-    let a = decimal(room, a, m.r as usize);
-    put_all(room, a, b"))")
-}
-
-// Where printing stands, and where reading does.
+// A clause, by its number and how many variables it has, and the bytes that hold it.
 #[derive(Clone, Copy)]
-pub struct Stand {
-    pub at: usize,
-    pub next: Cursor,
+struct Rule<'a> {
+    bytes: &'a [u8],
+    clause: usize,
+    variables: u8,
 }
 
-// The constraint at the cursor, of at most depth levels.
-#[cycle(tree_two)]
-fn tree(room: &mut [u8], at: usize, s: &[u8], k: usize, v: u8, c: Cursor, depth: usize) -> Stand
-    ensures { Drawn k (tree_at s.now v depth c) room.old room.new at result }
-{
-    if depth == 0 {
-        return Stand { at: at, next: c };
+impl Rule<'_> {
+    // A coefficient times variable i.
+    fn product(&self, out: &mut Printer, i: usize, c: i64)
+        ensures { Lists out.old out.new (term.product self.now.clause i c) }
+    {
+        out.put_all(b" (* ");
+        out.signed(c);
+        out.put(b' ');
+        numbered(out, b'y', self.clause, i);
+        out.put(b')');
     }
-    match c.node(s, v) {
-        NodeStep::Refused(_) => Stand { at: at, next: c },
-        NodeStep::Got(n, next) => match n {
+
+    // The sum whose coefficients and constant stand at p.
+    fn sum(&self, out: &mut Printer, p: usize)
+        requires { p + (self.now.variables * 2 + 4) ≤ length self.now.bytes.now }
+        ensures { Shows out.old out.new (sum_in self.now p) }
+    {
+        let v = self.variables as usize;
+        out.put_all(b"(+ 0 ");
+        out.signed(whole::i32_at(self.bytes, p + v * 2));
+        for i in 0..v {
+            self.product(out, i, whole::i16_at(self.bytes, p + i * 2));
+        }
+        out.put(b')');
+    }
+
+    // A sum and zero, as they end a comparison.
+    fn with_zero(&self, out: &mut Printer, p: usize)
+        requires { p + (self.now.variables * 2 + 4) ≤ length self.now.bytes.now }
+        ensures { Wrote out.old out.new (zero_of self.now p) }
+    {
+        out.put(b' ');
+        self.sum(out, p);
+        out.put_all(b" 0)");
+    }
+
+    // A comparison of a sum with zero.
+    fn compare(&self, out: &mut Printer, n: Comparison)
+        requires { CompareThere self.now.bytes.now self.now.variables n }
+        ensures { Shows out.old out.new (compared_of self.now n) }
+    {
+        match n {
+            Comparison::AtMost(x) => {
+                out.put_all(b"(<=");
+                self.with_zero(out, x.at);
+            }
+            Comparison::Equal(x) => {
+                out.put_all(b"(=");
+                self.with_zero(out, x.at);
+            }
+        }
+    }
+
+    // What a sum leaves.
+    fn remains(&self, out: &mut Printer, m: Remains)
+        requires { RemainsThere self.now.bytes.now self.now.variables m }
+        ensures { Shows out.old out.new (remains_of self.now m) }
+    {
+        let p = m.sum.at;
+        out.put_all(b"(and (<= 0 ");
+        self.sum(out, p);
+        out.put_all(b") (= (mod ");
+        self.sum(out, p);
+        out.put(b' ');
+        out.decimal(m.d as usize);
+        out.put_all(b") ");
+        out.decimal(m.r as usize);
+        out.put_all(b"))");
+    }
+
+    // The constraint at the cursor, of at most depth levels, and where reading stands after it.
+    #[cycle(tree_two)]
+    fn tree(&self, out: &mut Printer, c: Cursor, depth: usize) -> Cursor
+        ensures { Drawn self.now.clause (tree_at self.now.bytes.now self.now.variables depth c) out.old out.new result }
+    {
+        if depth == 0 {
+            return c;
+        }
+        let Ok((n, next)) = c.node(self.bytes, self.variables) else {
+            return c;
+        };
+        match n {
             Node::True => {
-                let a = put_all(room, at, b"true");
-                Stand { at: a, next: next }
+                out.put_all(b"true");
+                next
             }
             Node::Compare(x) => {
-                let a = compare(room, at, s, k, v, x);
-                Stand { at: a, next: next }
+                self.compare(out, x);
+                next
             }
             Node::Remainder(m) => {
-                let a = remains(room, at, s, k, v, m);
-                Stand { at: a, next: next }
+                self.remains(out, m);
+                next
             }
             Node::Not => {
-                let a = put_all(room, at, b"(not ");
-                let p = tree(room, a, s, k, v, next, depth - 1);
-                let q = p.next;
-                let a = put(room, p.at, b')');
-                Stand { at: a, next: q }
+                out.put_all(b"(not ");
+                let last = self.tree(out, next, depth - 1);
+                out.put(b')');
+                last
             }
             Node::And => {
-                let a = put_all(room, at, b"(and");
-                two(room, a, s, k, v, next, depth - 1)
+                out.put_all(b"(and");
+                self.two(out, next, depth - 1)
             }
             Node::Or => {
-                let a = put_all(room, at, b"(or");
-                two(room, a, s, k, v, next, depth - 1)
+                out.put_all(b"(or");
+                self.two(out, next, depth - 1)
             }
-        },
+        }
     }
-}
 
-// Two constraints, and the closing bracket.
-#[cycle(tree_two)]
-fn two(room: &mut [u8], at: usize, s: &[u8], k: usize, v: u8, c: Cursor, depth: usize) -> Stand
-    ensures { DrawnTwo k (tree_at s.now v depth) c room.old room.new at result }
-{
-    let a = put(room, at, b' ');
-    let p = tree(room, a, s, k, v, c, depth);
-    let a = p.at;
-    let q = p.next;
-    let a = put(room, a, b' ');
-    let p = tree(room, a, s, k, v, q, depth);
-    let a = p.at;
-    let q = p.next;
-    let a = put(room, a, b')');
-    Stand { at: a, next: q }
+    // Two constraints, and the closing bracket.
+    #[cycle(tree_two)]
+    fn two(&self, out: &mut Printer, c: Cursor, depth: usize) -> Cursor
+        ensures { DrawnTwo self.now.clause (tree_at self.now.bytes.now self.now.variables depth) c out.old out.new result }
+    {
+        out.put(b' ');
+        let c = self.tree(out, c, depth);
+        out.put(b' ');
+        let c = self.tree(out, c, depth);
+        out.put(b')');
+        c
+    }
 }
 
 // The constraint of clause k of v variables, which stands at p.
-pub fn constraint(room: &mut [u8], at: usize, s: &[u8], k: usize, v: u8, p: usize) -> usize
+pub fn constraint(out: &mut Printer, s: &[u8], k: usize, v: u8, p: usize)
     requires { IsTree s.now v p }
-    ensures { Shows room.old room.new at result (term.constraint k (tree_in s.now v p)) }
+    ensures { Shows out.old out.new (term.constraint k (tree_in s.now v p)) }
 {
-    let c = Cursor { at: p, left: 64 };
-    let e = tree(room, at, s, k, v, c, 16);
-    e.at
+    let rule = Rule {
+        bytes: s,
+        clause: k,
+        variables: v,
+    };
+    rule.tree(out, Cursor { at: p, left: 64 }, 16);
 }

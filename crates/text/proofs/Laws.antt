@@ -1,62 +1,42 @@
 -- Laws of the text: what is printed out of the book's bytes is what the meaning's book says.
 use mathlib.Core.Path.{◌≡◌, sym, ap}
-use mathlib.Core.List.{List}
 use Prim.Native.Nat.{ℕ}
 use lib.ListN.{length}
 use Rattle.meaning.specs.Book.{place_window}
 use Rattle.cursor.specs.declared.Clause.{Clause}
 use Rattle.cursor.specs.Meaning.{clause_in}
-use Rattle.book.specs.declared.Header.{Header}
-use Rattle.book.specs.Read.{read}
-use Rattle.book.specs.Meaning.{book_in}
+use Rattle.book.specs.declared.held.Book.{Book}
+use Rattle.book.specs.Held.{meant}
 use Rattle.book.specs.Joined.{Held}
 use Rattle.book.specs.Arities.{relations-are}
-use Rattle.sexp.specs.Bytes.{bytes}
 use Rattle.sexp.specs.Sexp.{Sexps, each}
-use Rattle.put.specs.Room.{Wrote}
+use Rattle.put.specs.declared.Printer.{Printer}
 use Rattle.put.specs.Shows.{Lines}
 use Rattle.script.specs.Names.{place_name}
 use Rattle.script.specs.Terms.{limits}
 use Rattle.script.specs.Lines.{input_line, input_lines, denied, clause_part_of}
-use Rattle.term.specs.declared.Row.{Row}
-use Rattle.term.specs.declared.Name.{Name}
-use Rattle.term.specs.declared.Name.TheVariants.{Flag, Item}
-use Rattle.text.specs.Sort.{sort_of}
 use Rattle.text.specs.Reply.{clause_of}
-use Rattle.std.specs.Prelude.{Ok, Err}
 
-module _ (n : Name) {d e : List ℕ} {at r : ℕ} where
-  pub sort-flag : {m : ℕ} → n ≡ Flag m → Wrote d e at r (bytes "Bool") → Wrote d e at r (bytes (sort_of n))
-  unfolding sort_of
-  sort-flag h u = rw h u
+module _ (b : Book) where
+  -- ---- loops over the relations
 
-  pub sort-item : {row : Row} {i : ℕ} → n ≡ Item row i → Wrote d e at r (bytes "Int") → Wrote d e at r (bytes (sort_of n))
-  unfolding sort_of
-  sort-item h u = rw h u
-
-pub ruleset sorts = (sort-flag, sort-item)
-
--- ---- loops over the relations
-
-module _ (s : List ℕ) (h : Header) where
   -- place i of relation r
   unfoldable pub limits_at : ℕ → ℕ → Sexps
-  limits_at r i = limits (place_window (book_in s h) r i) (place_name r i)
+  limits_at r i = limits (place_window (meant b) r i) (place_name r i)
 
-  pub denied-are : read s ≡ Ok h → each h.relations denied ≡ each (length (book_in s h).arities) denied
-  denied-are good = ap (λ (m : ℕ). each m denied) (sym (relations-are s h good))
+  pub denied-are : each b.header.relations denied ≡ each (length (meant b).arities) denied
+  denied-are = ap (λ (m : ℕ). each m denied) (sym (relations-are _ _ b.accepted))
 
--- ---- loops over the clauses
+  -- ---- loops over the clauses
 
-module _ (s : List ℕ) (h : Header) where
   unfoldable pub inputs_at : ℕ → Sexps
-  inputs_at k = input_lines k (clause_of s h k)
+  inputs_at k = input_lines k (clause_of b k)
 
   unfoldable pub part_at : ℕ → Sexps
-  part_at k = clause_part_of (book_in s h) k (clause_of s h k)
+  part_at k = clause_part_of (meant b) k (clause_of b k)
 
   -- a record that was read is the clause
-  pub inputs-held : (k : ℕ) (l : Clause) → Held s h k l → {d e : List ℕ} {at r : ℕ} →
-      Lines d e at r (each l.variables (input_line k)) → Lines d e at r (inputs_at k)
+  pub inputs-held : (k : ℕ) (l : Clause) → Held b.bytes.now b.header k l → {p q : Printer} →
+      Lines p q (each l.variables (input_line k)) → Lines p q (inputs_at k)
   unfolding inputs_at input_lines clause_in
   inputs-held k l w u = rw w.is u

@@ -1,22 +1,19 @@
 use Rattle.std.proofs.Common.{arith}
 use Rattle.sexp.specs.Sexp.{onto}
-use Rattle.put.proofs.Laws.{all, wrote-length, each_after, each_more, each_all}
+use Rattle.put.proofs.Laws.{all, each_none, each_more, each_all}
 use Rattle.script.specs.Names.{in_state}
 use Rattle.script.specs.Lines as lines
-use Rattle.term.specs.Name.{name_of, item_name}
+use Rattle.term.specs.Name.{name_of}
 use Rattle.part.proofs.frame.Goals as goal
 
 pub loop-i-init : goal.loop-i-init
-loop-i-init c = (omega arith, each_after _ c.same-a.ensures.text)
+loop-i-init c = each_none _
 
 pub loop-i-preserved : goal.loop-i-preserved
-unfolding lines.kept_place name_of item_name in_state
-loop-i-preserved c = (omega arith, each_more _ _ c.loop-i.invariant.1 c.same-a-in-loop-i.ensures)
+unfolding lines.kept_place name_of in_state
+loop-i-preserved c = each_more _ _ c.loop-i.invariant c.same-in-loop-i.ensures
 
 pub returns : goal.returns
 unfolding lines.frame name_of in_state onto
 returns c =
-    record { text = all c.same-a.ensures (each_all _ (omega arith) (omega arith) c.loop-i.invariant.1).text }
-
-pub shape_of-room : goal.shape_of-room
-shape_of-room c = wrote-length (returns c).text
+    record { text = all c.same.ensures (each_all _ (omega arith) (omega arith) c.loop-i.invariant).text }

@@ -1,5 +1,5 @@
-use Rattle.std.proofs.Common.{w32}
-use Rattle.put.proofs.Laws.{join, one, renum, wrote-length}
+use Rattle.std.proofs.Common.{arith, w32}
+use Rattle.put.proofs.Laws.{join, one, renum_wide}
 use Rattle.sexp.specs.Sexp.{onto}
 use Rattle.script.specs.Terms as term
 use Rattle.term.proofs.limits.Goals as goal
@@ -7,7 +7,6 @@ use Rattle.term.proofs.limits.Goals as goal
 pub returns : goal.returns
 unfolding onto term.limits
 returns c =
-    record { text = join c.put_all-a.ensures (one (renum w32 _ c.struct_told-1.given.0.1 c.signed32-a.ensures) (join c.put-a.ensures (join c.word-a.ensures (join c.put_all-a-2.ensures (join c.word-a-2.ensures (join c.put-a-2.ensures (one (renum w32 _ c.struct_told-2-1.given.1.0.1 c.signed32-a-2.ensures) c.put.ensures))))))) }
-
-pub shape_of-room : goal.shape_of-room
-shape_of-room c = wrote-length (returns c).text
+    let low = renum_wide w32 _ (omega arith) c.into.type_inv c.into.ensures c.signed.ensures in
+    let high = renum_wide w32 _ (omega arith) c.into-2.type_inv c.into-2.ensures c.signed-2.ensures in
+    record { text = join c.put_all.ensures (one low (join c.put.ensures (join c.print.ensures (join c.put_all-2.ensures (join c.print-2.ensures (join c.put-2.ensures (one high c.put-3.ensures))))))) }

@@ -6,4 +6,4 @@ use Rattle.term.proofs.same.Goals as goal
 pub returns : goal.returns
 unfolding onto term.same
 returns c =
-    record { text = join c.put_all-a.ensures (join c.word_in-a.ensures (join c.put-a.ensures (join c.word-a.ensures c.put.ensures))) }
+    record { text = join c.put_all.ensures (join c.print_when.ensures (join c.put.ensures (join c.print.ensures c.put-2.ensures))) }

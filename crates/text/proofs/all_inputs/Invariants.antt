@@ -1,11 +1,7 @@
-use Rattle.std.proofs.Common.{◌-◌, ◌≤◌}
 use Rattle.sexp.specs.Sexp.{each}
 use Rattle.put.specs.Shows.{Lines}
 use Rattle.text.proofs.Laws.{inputs_at}
 use Rattle.text.proofs.all_inputs.Given as goal
 
 abbrev pub invariant-loop-k : goal.invariant-loop-k
-invariant-loop-k l = (l.k ≤ l.n) × Lines l.initial.room l.room l.at l.a (each l.k (inputs_at l.book l.h))
-
-abbrev pub decreases-loop-k : goal.decreases-loop-k
-decreases-loop-k l = l.n - l.k
+invariant-loop-k l = Lines l.initial.out l.out (each l.k (inputs_at l.book))

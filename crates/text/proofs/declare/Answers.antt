@@ -5,4 +5,5 @@ use Rattle.text.proofs.declare.Goals as goal
 pub returns : goal.returns
 unfolding onto lines_onto
 returns c =
-    record { text = join c.put_all-a.ensures (join c.word_in-a.ensures (join c.put_all-a-2.ensures (join c.sort-a.ensures c.put_all.ensures))) }
+    let sort = rw c.sort.ensures at c.put_all-3.ensures in
+    record { text = join c.put_all.ensures (join c.print_when.ensures (join c.put_all-2.ensures (join sort c.put_all-4.ensures))) }

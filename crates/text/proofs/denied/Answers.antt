@@ -1,20 +1,17 @@
 use Rattle.std.proofs.Common.{arith}
 use Rattle.sexp.specs.Sexp.{onto}
-use Rattle.put.proofs.Laws.{join, wrote-length, each_none, each_more, each_all}
+use Rattle.put.proofs.Laws.{join, each_none, each_more, each_all}
 use Rattle.script.specs.Lines as lines
 use Rattle.term.specs.Name.{name_of}
 use Rattle.text.proofs.denied.Goals as goal
 
 pub loop-r-init : goal.loop-r-init
-loop-r-init c = (omega arith, each_none _ (omega arith) (omega arith))
+loop-r-init c = each_none _
 
 pub loop-r-preserved : goal.loop-r-preserved
 unfolding lines.denied name_of onto
 loop-r-preserved c =
-    (omega arith, each_more _ _ c.loop-r.invariant.1 (record { text = join c.put_all-a.ensures (join c.word-a.ensures c.put-a.ensures) }))
+    each_more _ _ c.loop-r.invariant (record { text = join c.put_all.ensures (join c.print.ensures c.put.ensures) })
 
 pub returns : goal.returns
-returns c = each_all _ (omega arith) (omega arith) c.loop-r.invariant.1
-
-pub shape_of-room : goal.shape_of-room
-shape_of-room c = wrote-length (returns c).text
+returns c = each_all _ (omega arith) (omega arith) c.loop-r.invariant

@@ -7,4 +7,4 @@ use Rattle.text.proofs.init.Goals as goal
 pub returns : goal.returns
 unfolding onto lines_onto lines.init_line
 returns c =
-    record { text = join c.put_all-a.ensures (more _ _ (relist (denied-are _ _ c.requires) c.denied-a.ensures) (all c.place_limits-a.ensures c.put_all.ensures)) }
+    record { text = join c.put_all.ensures (more _ _ (relist (denied-are c.args.book.now) (rw c.relations.ensures at c.denied.ensures)) (all c.place_limits.ensures c.put_all-2.ensures)) }

@@ -1,20 +1,17 @@
 use Rattle.std.proofs.Common.{arith}
-use Rattle.put.proofs.Laws.{wrote-length, lines_none, lines_more, lines-all}
+use Rattle.put.proofs.Laws.{lines_none, lines_more, lines-all}
 use Rattle.script.specs.Names.{in_state}
 use Rattle.script.specs.Lines as lines
-use Rattle.term.specs.Name.{name_of, item_name}
+use Rattle.term.specs.Name.{name_of}
 use Rattle.text.specs.Sort.{sort_of}
 use Rattle.text.proofs.inputs.Goals as goal
 
 pub loop-i-init : goal.loop-i-init
-loop-i-init c = (omega arith, lines_none _ (omega arith) (omega arith))
+loop-i-init c = lines_none _
 
 pub loop-i-preserved : goal.loop-i-preserved
-unfolding lines.input_line name_of item_name sort_of in_state
-loop-i-preserved c = (omega arith, lines_more _ _ c.loop-i.invariant.1 c.declare-a.ensures)
+unfolding lines.input_line name_of sort_of in_state
+loop-i-preserved c = lines_more _ _ c.loop-i.invariant c.declare.ensures
 
 pub returns : goal.returns
-returns c = lines-all _ (omega arith) (omega arith) c.loop-i.invariant.1
-
-pub shape_of-room : goal.shape_of-room
-shape_of-room c = wrote-length (returns c).text
+returns c = lines-all _ (omega arith) (omega arith) c.loop-i.invariant

@@ -1,11 +1,7 @@
-use Rattle.std.proofs.Common.{◌-◌, ◌≤◌}
 use Rattle.sexp.specs.Sexp.{each}
 use Rattle.put.specs.Shows.{Lines}
 use Rattle.script.specs.Lines as lines
 use Rattle.text.proofs.inputs.Given as goal
 
 abbrev pub invariant-loop-i : goal.invariant-loop-i
-invariant-loop-i l = (l.i ≤ l.v) × Lines l.initial.room l.room l.at l.a (each l.i (lines.input_line l.k))
-
-abbrev pub decreases-loop-i : goal.decreases-loop-i
-decreases-loop-i l = l.v - l.i
+invariant-loop-i l = Lines l.initial.out l.out (each l.i (lines.input_line l.k))

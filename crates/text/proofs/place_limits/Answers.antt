@@ -1,23 +1,20 @@
 use Rattle.std.proofs.Common.{ap, arith}
 use Rattle.book.specs.Arities.{relations-are}
-use Rattle.put.proofs.Laws.{relist, wrote-length, each_none, each_more, each_all}
+use Rattle.put.proofs.Laws.{relist, each_none, each_more, each_all}
 use Rattle.script.specs.Lines as lines
 use Rattle.part.proofs.Laws.{by_arity}
 use Rattle.text.proofs.place_limits.Goals as goal
 
 pub loop-r-init : goal.loop-r-init
-loop-r-init c = (omega arith, each_none _ (omega arith) (omega arith))
+loop-r-init c = each_none _
 
 pub loop-r-preserved : goal.loop-r-preserved
 unfolding by_arity
 loop-r-preserved c =
-    (omega arith, each_more _ _ c.loop-r.invariant.1 (relist (ap (lines.place_limits _ _) c.arity_of.ensures.0) c.limits_of-a.ensures))
+    each_more _ _ c.loop-r.invariant (relist (ap (lines.place_limits _ _) c.arity.ensures.0) c.limits_of.ensures)
 
 pub returns : goal.returns
 unfolding by_arity
 returns c =
-    let e = relations-are _ _ c.requires in
-    each_all _ (omega arith) (omega arith) c.loop-r.invariant.1
-
-pub shape_of-room : goal.shape_of-room
-shape_of-room c = wrote-length (returns c).text
+    let e = relations-are _ _ c.args.book.now.accepted in
+    each_all _ (omega arith) (omega arith) c.loop-r.invariant

@@ -1,6 +1,5 @@
-use Rattle.std.proofs.Common.{◌-◌, ◌≤◌}
 use Rattle.meaning.specs.Book.{place_window}
-use Rattle.book.specs.Meaning.{book_in}
+use Rattle.book.specs.Held.{meant}
 use Rattle.sexp.specs.Sexp.{each}
 use Rattle.put.specs.Shows.{Lists}
 use Rattle.script.specs.Lines as lines
@@ -8,7 +7,4 @@ use Rattle.part.proofs.Laws.{by_arity}
 use Rattle.text.proofs.place_limits.Given as goal
 
 abbrev pub invariant-loop-r : goal.invariant-loop-r
-invariant-loop-r l = (l.r ≤ l.n) × Lists l.initial.room l.room l.at l.a (each l.r (by_arity l.book l.h (lines.place_limits (place_window (book_in l.book l.h)))))
-
-abbrev pub decreases-loop-r : goal.decreases-loop-r
-decreases-loop-r l = l.n - l.r
+invariant-loop-r l = Lists l.initial.out l.out (each l.r (by_arity l.book (lines.place_limits (place_window (meant l.book)))))

@@ -1,24 +1,24 @@
-use Rattle.std.proofs.Common.{sym, ◌∙◌}
+use Rattle.std.specs.Prelude.{Err}
+use Rattle.std.proofs.Common.{ap, ◌∙◌}
+use Rattle.std.proofs.lemmas.Result.{err_from_is_err_and}
 use Rattle.book.proofs.Calls.{room-stop, room-on}
 use Rattle.text.proofs.Top.{prints-short, prints-written}
 use Rattle.text.proofs.Small.{text-small}
 use Rattle.text.proofs.print.Goals as goal
 
-pub returns-in_default : goal.returns-in_default
-returns-in_default c = room-stop _ _ _ c.read_book-read.ensures c.in_default.is c.refused_by.ensures
-
-pub write-need-requires : goal.write-need-requires
-write-need-requires c = sym c.read_book-read.ensures.is ∙ c.in-Good.is
+pub returns-in_err-book : goal.returns-in_err-book
+returns-in_err-book c =
+    let (e, p, q) = err_from_is_err_and c.from_residual.result c.from_residual.ensures.1 in
+    room-stop _ _ _ c.in_err-book.ensures (p ∙ ap Err q)
 
 pub returns-then-room-need : goal.returns-then-room-need
 returns-then-room-need c =
-    let good = sym c.read_book-read.ensures.is ∙ c.in-Good.is in
-    room-on _ _ _ c.read_book-read.ensures c.in-Good.is (prints-short _ _ (text-small _ _ (λ i. (c.shared_slice_known-1.given i).fits) good) c.write-need.ensures c.if-room-need.true c.refuse.ensures)
-
-pub write-requires : goal.write-requires
-write-requires c = sym c.read_book-read.ensures.is ∙ c.in-Good.is
+    let (b, r) = c.in_ok-book.ensures in
+    let w = rw b at c.write-need.ensures in
+    room-on _ _ _ r (prints-short _ _ (text-small _ _ (λ i. (c.type_inv.book i).fits) r) w.room w.size c.if-room-need.true c.refuse.ensures)
 
 pub returns : goal.returns
 returns c =
-    let good = sym c.read_book-read.ensures.is ∙ c.in-Good.is in
-    room-on _ _ _ c.read_book-read.ensures c.in-Good.is (prints-written _ _ (text-small _ _ (λ i. (c.shared_slice_known-1.given i).fits) good) c.write-need.ensures c.if-room-need.false c.write.ensures)
+    let (b, r) = c.in_ok-book.ensures in
+    let w = rw b at c.write-need.ensures in
+    room-on _ _ _ r (prints-written _ _ (text-small _ _ (λ i. (c.type_inv.book i).fits) r) w.room w.size c.if-room-need.false (rw b at c.write.ensures.room))

@@ -7,4 +7,4 @@ use Rattle.text.proofs.prop.Goals as goal
 pub returns : goal.returns
 unfolding onto lines_onto lines.prop_line name_of
 returns c =
-    record { text = join c.put_all-a.ensures (join c.word-a.ensures c.put_all.ensures) }
+    record { text = join c.put_all.ensures (join c.print.ensures c.put_all-2.ensures) }

@@ -1,20 +1,17 @@
 use Rattle.std.proofs.Common.{arith}
-use Rattle.put.proofs.Laws.{both-lines, wrote-length, lines_after, lines_more, lines-all}
+use Rattle.put.proofs.Laws.{both-lines, lines_none, lines_more, lines-all}
 use Rattle.script.specs.Lines as lines
-use Rattle.term.specs.Name.{name_of, item_name}
+use Rattle.term.specs.Name.{name_of}
 use Rattle.text.specs.Sort.{sort_of}
 use Rattle.text.proofs.relation.Goals as goal
 
 pub loop-i-init : goal.loop-i-init
-loop-i-init c = (omega arith, lines_after _ c.state-a.ensures.text)
+loop-i-init c = lines_none _
 
 pub loop-i-preserved : goal.loop-i-preserved
-unfolding lines.place_lines name_of item_name sort_of
-loop-i-preserved c = (omega arith, lines_more _ _ c.loop-i.invariant.1 c.state-a-in-loop-i.ensures)
+unfolding lines.place_lines name_of sort_of
+loop-i-preserved c = lines_more _ _ c.loop-i.invariant c.state-in-loop-i.ensures
 
 pub returns : goal.returns
 unfolding lines.relation_lines name_of sort_of
-returns c = both-lines c.state-a.ensures (lines-all _ (omega arith) (omega arith) c.loop-i.invariant.1)
-
-pub shape_of-room : goal.shape_of-room
-shape_of-room c = wrote-length (returns c).text
+returns c = both-lines c.state.ensures (lines-all _ (omega arith) (omega arith) c.loop-i.invariant)

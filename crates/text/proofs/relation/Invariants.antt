@@ -1,11 +1,7 @@
-use Rattle.std.proofs.Common.{◌-◌, ◌≤◌}
 use Rattle.sexp.specs.Sexp.{each}
 use Rattle.put.specs.Shows.{Lines}
 use Rattle.script.specs.Lines as lines
 use Rattle.text.proofs.relation.Given as goal
 
 abbrev pub invariant-loop-i : goal.invariant-loop-i
-invariant-loop-i l = (l.i ≤ l.m) × Lines l.initial.room l.room l.initial.a l.a (each l.i (lines.place_lines l.r))
-
-abbrev pub decreases-loop-i : goal.decreases-loop-i
-decreases-loop-i l = l.m - l.i
+invariant-loop-i l = Lines l.initial.out l.out (each l.i (lines.place_lines l.r))

@@ -1,4 +1,3 @@
-use Rattle.std.proofs.Common.{◌-◌, ◌≤◌}
 use Rattle.sexp.specs.Sexp.{each}
 use Rattle.put.specs.Shows.{Lines}
 use Rattle.script.specs.Lines as lines
@@ -6,7 +5,4 @@ use Rattle.part.proofs.Laws.{by_arity}
 use Rattle.text.proofs.relations.Given as goal
 
 abbrev pub invariant-loop-r : goal.invariant-loop-r
-invariant-loop-r l = (l.r ≤ l.n) × Lines l.initial.room l.room l.at l.a (each l.r (by_arity l.book l.h lines.relation_lines))
-
-abbrev pub decreases-loop-r : goal.decreases-loop-r
-decreases-loop-r l = l.n - l.r
+invariant-loop-r l = Lines l.initial.out l.out (each l.r (by_arity l.book lines.relation_lines))

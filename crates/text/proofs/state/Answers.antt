@@ -7,4 +7,4 @@ use Rattle.text.proofs.state.Goals as goal
 pub returns : goal.returns
 unfolding lines_onto in_state lines.state_lines
 returns c =
-    record { text = rows c.declare-a.ensures (rows c.declare-a-2.ensures c.pair.ensures.text) }
+    record { text = rows c.declare.ensures (rows c.declare-2.ensures c.pair.ensures.text) }

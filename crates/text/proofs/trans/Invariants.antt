@@ -1,11 +1,7 @@
-use Rattle.std.proofs.Common.{◌-◌, ◌≤◌}
 use Rattle.sexp.specs.Sexp.{each}
 use Rattle.put.specs.Shows.{Lists}
 use Rattle.text.proofs.Laws.{part_at}
 use Rattle.text.proofs.trans.Given as goal
 
 abbrev pub invariant-loop-k : goal.invariant-loop-k
-invariant-loop-k l = (l.k ≤ l.n) × Lists l.initial.room l.room l.initial.a l.a (each l.k (part_at l.book l.h))
-
-abbrev pub decreases-loop-k : goal.decreases-loop-k
-decreases-loop-k l = l.n - l.k
+invariant-loop-k l = Lists l.initial.out l.out (each l.k (part_at l.book))
