@@ -13,7 +13,7 @@ use lib.Signed.{mag}
 use mir.Syntax.{w32}
 use mir.Val.{hbits, to_z, of_z}
 use Rattle.whole.specs.Whole.{own}
-use Rattle.reply.specs.declared.Answer.TheVariants.{Done}
+use Rattle.std.specs.Prelude.{Ok}
 use Rattle.reply.specs.Answer.{says}
 use Rattle.reply.specs.Room.{Due, Fair, Leaves}
 use Rattle.console.specs.Console.{again}
@@ -47,6 +47,6 @@ take-put_behind xs ys d k n h m =
 
 -- ---- what a call with a room wrote lies within the room
 
-pub done-within : {A : Type 0} {d e : List A} {y : Due A} {n : ℕ} → Fair d y → Leaves y (Done n) e → n ≤ length e
+pub ok-within : {A : Type 0} {d e : List A} {y : Due A} {n : ℕ} → Fair d y → Leaves y (Ok n) e → n ≤ length e
 unfolding says
-done-within f w = let front = f.done-room (sym w.tells) in rw w.room (omega (arith, front.0, front.1))
+ok-within f w = let front = f.done-room (sym w.tells) in rw w.room (omega (arith, front.0, front.1))
