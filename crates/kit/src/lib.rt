@@ -18,8 +18,8 @@ fn answered(a: reply::Answer, place: &mut u64) -> u32
     ensures { Tells (says a) result place.new }
 {
     match a {
-        reply::Answer::Done(n) => told(place, 0, n),
-        reply::Answer::Refused(q) => told(place, q.number, q.place),
+        Ok(n) => told(place, 0, n),
+        Err(refusal) => told(place, refusal.number, refusal.place),
     }
 }
 
@@ -123,8 +123,6 @@ pub fn ruahmitz_model(
     let a = model::check(book, model);
     *count = a.count as u64;
     *clause = a.clause as u64;
-    let v = a.values;
-    *values = v;
-    let answer = a.answer;
-    answered(answer, place)
+    *values = a.values;
+    answered(a.answer, place)
 }

@@ -1,12 +1,18 @@
 -- One step more of a count.
 use mathlib.Core.Path.{◌≡◌, sym}
-use Prim.Native.Nat.{ℕ, ◌+◌, ◌*◌, ◌≤◌, ◌<◌}
+use Prim.Native.Nat.{ℕ, ◌+◌, ◌*◌, ◌≤◌, ◌<◌, min}
 use native.Mathlib.Numerals.{add-one}
 use native.Mathlib.Omega.{arith}
 use native.Mathlib.Nat.{mul-le-mul}
 use Rattle.meaning.specs.Book.{Window}
 use Rattle.models.specs.Assignments.{width, count}
-use Rattle.models.specs.Cap.{cap, cap-small, cap-below, cap-times}
+use Rattle.models.specs.Cap.{cap, cap-small, cap-large, cap-below, cap-times}
+use mathlib.Core.Logic.{⊎_elim}
+use Rattle.whole.specs.Whole.{lt-or-le}
+
+-- the code stops by a minimum
+pub capping : (n : ℕ) {x : ℕ} → x ≡ min n 1000001 → x ≡ cap n
+capping n e = ⊎_elim (λ h. omega (arith, e, cap-large n h)) (λ h. omega (arith, e, cap-small n h)) (lt-or-le 1000000 n)
 
 -- no variables
 pub count_none : (v : ℕ → Window) → 1 ≡ cap (count v 0)

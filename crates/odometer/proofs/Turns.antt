@@ -42,9 +42,6 @@ module _ (h : code.Window) (vs : List ℤ) (i : ℕ) where
       let f : SFits w32 v = record { sfits = k } in
       fits_next f g (record { lt = rw (simp (to_z-of_z f, to_z-of_z g) at t) tt })
 
-  pub turn-fits : mag v < 2 ^ hbits w32 → SFits w32 h.hi → Less → SFits w32 (to_z w32 (of_z w32 v) +ℤ pos 1)
-  turn-fits k g t = rw (own w32 v k) (one-fits k g t)
-
   module _ (k : mag v < 2 ^ hbits w32) (g : SFits w32 h.hi) where
     test-is : {t : Bool} → lt_z (to_z w32 (of_z w32 v)) (to_z w32 (of_z w32 h.hi)) ≡ t → lt_z v h.hi ≡ t
     test-is e = let f : SFits w32 v = record { sfits = k } in simp (to_z-of_z f, to_z-of_z g) at e

@@ -2,9 +2,7 @@
 use Prim.Native.Nat.{ℕ, ◌+◌, ◌^◌, ◌<◌}
 use native.Mathlib.Numerals.{add-one}
 use native.Mathlib.Omega.{arith}
-use mathlib.Core.Path.{◌≡◌, refl, sym, ◌∙◌}
-use mathlib.Core.Bool.{Bool, true, false, not}
-use Rattle.cursor.specs.Steps.{pick}
+use mathlib.Core.Path.{◌≡◌, refl}
 use mathlib.Core.List.{List, [], ◌∷◌}
 use lib.ListN.{length, get_or, take, drop, set, length-drop}
 use lib.Seq.{take-suc, take-suc-set, get_or-drop}
@@ -35,19 +33,3 @@ module _ (s : List ℕ) (seat k : ℕ) (vs ps : List ℤ) {i : ℕ} where
         map-append (λ (i : ℕ). get_or vs i (pos 0)) (take k (drop (seat + 1) s)) (get_or s (seat + 1 + k) 0 ∷ []),
         j,
       )
-
--- ---- tests by a call's result r
-
-module _ {A : Type 0} {x : A} where
-  pub pick_yes : (t : Bool) (y z : A) {r : Bool} → r ≡ t → r ≡ true → x ≡ y → x ≡ pick t y z
-  unfolding pick
-  pick_yes t y z p q e = rw (sym p ∙ q) e
-
-  pub pick_no : (t : Bool) (y z : A) {r : Bool} → r ≡ t → r ≡ false → x ≡ z → x ≡ pick t y z
-  unfolding pick
-  pick_no t y z p q e = rw (sym p ∙ q) e
-
-pub not_same : (t : Bool) {r x : Bool} → r ≡ t → x ≡ not r → x ≡ not t
-not_same t p e = rw (← p) e
-
-pub ruleset tests = (pick_yes, pick_no, not_same)

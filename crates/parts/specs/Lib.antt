@@ -1,1 +1,2 @@
 pub mod Task
+pub mod Opened

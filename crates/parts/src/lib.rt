@@ -1,194 +1,196 @@
 // A model's parts: where its constraints stand, and one assignment of a clause against them.
 #![tactic(auto)]
 
-ghost use Rattle.std.specs.Prelude.{◌≡◌, ◌+◌, ◌≤◌, ◌<◌, [], length, take};
-ghost use Rattle.meaning.specs.Constraint.{holds};
+ghost use Rattle.std.specs.Prelude.{◌≡◌, ◌+◌, ◌≤◌, length, take, Ok};
 ghost use Rattle.cursor.specs.Sound.{Arguments};
-ghost use Rattle.cursor.specs.Meaning.{tree_in};
-ghost use Rattle.book.specs.Read.{read};
-ghost use Rattle.book.specs.Meaning.{book_in};
-ghost use Rattle.book.specs.declared.Reading.TheVariants.{Good};
-ghost use Rattle.models.specs.Read.{number_in, rule_at, pass_at};
-ghost use Rattle.parts.specs.Task.{places_of, met_in, breaks_in, Side, Ready, Scanned, Taken, half_of};
+ghost use Rattle.book.specs.Held.{meant};
+ghost use Rattle.models.specs.Read.{in_model, rule_at};
+ghost use Rattle.parts.specs.Task.{scan, places_of, Taken};
 
-// Where each relation's constraint starts in the model, and where the model ends, or the refusal.
-#[derive(Clone, Copy)]
-pub struct Scan {
-    pub starts: [usize; 16],
-    pub end: cursor::Step,
-}
+use book::Book;
+use cursor::{Clause, Cursor};
+use reply::{Refusal, refuse};
 
-// A relation in the model: how many places it has, and where its constraint starts.
+// A clause's head or body in a model: where its relation's number stands in the book, how many places the relation has, and where its constraint starts in the model.
 #[derive(Clone, Copy)]
 pub struct Half {
+    pub seat: usize,
     pub places: u8,
     pub rule: usize,
 }
 
-// A clause, and the relations of its body and its head in the model.
+// A model that was read: its book, its bytes, and where each relation's constraint starts in them.
 #[derive(Clone, Copy)]
-pub struct Task {
-    pub clause: cursor::Clause,
-    pub body: Half,
+pub struct Model<'a> {
+    pub book: Book<'a>,
+    pub bytes: &'a [u8],
+    pub starts: [usize; 16],
+    pub ghost read: { scan bytes.now (meant book).arities ≡ Ok starts },
+}
+
+// A clause of a model's book, and its body and head in the model.
+#[derive(Clone, Copy)]
+pub struct Task<'a> {
+    pub model: &'a Model<'a>,
+    pub number: usize,
+    pub clause: Clause,
+    pub body: Option<Half>,
     pub head: Half,
+    pub ghost taken: { Taken model.now.book.bytes.now model.now.book.header model.now.starts number clause body head },
 }
 
 // ---- reading the model
 
-// the number that a constraint's refusal has in a model
-fn in_model(number: u8) -> u8
-    ensures { result ≡ number_in number }
+// a constraint's refusal, as it is in a model
+#[tactic(auto, unfolding(models::specs::Read::in_model, models::specs::Read::number_in, cursor::specs::Steps::pick))]
+fn in_model(r: Refusal) -> Refusal
+    ensures { result ≡ in_model r }
 {
-    if number == 7 { 21 } else { 22 }
+    Refusal {
+        number: if r.number == 7 { 21 } else { 22 },
+        place: r.place,
+    }
 }
 
 // one constraint over n variables
-fn rule(c: cursor::Cursor, model: &[u8], n: u8) -> cursor::Step
+#[tactic(auto, unfolding(models::specs::Read::rule_at, reply::specs::Then::go_on))]
+fn rule(c: Cursor, model: &[u8], n: u8) -> Result<Cursor, Refusal>
     ensures { result ≡ rule_at model.now n c }
 {
-    let fresh = cursor::Cursor { at: c.at, left: 64 };
-    match fresh.constraint(model, n, 16) {
-        cursor::Step::Moved(d) => cursor::Step::Moved(d),
-        cursor::Step::Refused(r) => cursor::Step::Refused(reply::Refusal {
-            number: in_model(r.number),
-            place: r.place,
-        }),
-    }
+    let fresh = Cursor { at: c.at, left: 64 };
+    fresh.constraint(model, n, 16).map_err(in_model)
 }
 
-// The whole model of an accepted book
-pub fn read_model(model: &[u8], book: &[u8], h: book::Header) -> Scan
-    requires { read book.now ≡ Good h }
-    ensures { Scanned model.now (book_in book.now h).arities result }
+// where each relation's constraint starts in the bytes of a model
+fn starts_of(model: &[u8], book: &Book) -> Result<[usize; 16], Refusal>
+    ensures { result ≡ scan model.now (meant book.now).arities }
 {
-    let n = whole::wide(h.relations);
-    let mut starts = [0usize; 16];
-    let mut c = cursor::Cursor { at: 0, left: 0 };
-    let mut k = 0;
-    while k < n {
-        let at = c.at;
-        starts[k] = at;
-        match rule(c, model, book::arity_of(book, h, k) as u8) {
-            cursor::Step::Refused(r) => {
-                return Scan {
-                    starts: starts,
-                    end: cursor::Step::Refused(r),
-                };
-            }
-            cursor::Step::Moved(d) => {
-                c = d;
-            }
-        }
-        k += 1;
+    let mut starts = [0; 16];
+    let mut c = Cursor { at: 0, left: 0 };
+    for k in 0..book.relations() {
+        starts[k] = c.at;
+        c = rule(c, model, book.arity(k) as u8)?;
     }
-    Scan {
-        starts: starts,
-        end: ended(c, model),
-    }
-}
-
-// nothing is left
-fn ended(c: cursor::Cursor, model: &[u8]) -> cursor::Step
-    ensures { result ≡ pass_at model.now [] c }
-{
     if c.at == model.len() {
-        cursor::Step::Moved(c)
+        Ok(starts)
     } else {
-        cursor::Step::Refused(reply::Refusal {
-            number: 22,
-            place: c.at,
-        })
+        refuse(22, c.at)
     }
 }
-
-// ---- one assignment
 
 // the values of n arguments that stand after the seat
 fn gather(s: &[u8], seat: usize, n: u8, values: &[i32]) -> [i32; 8]
     requires { (n ≤ 8) × Arguments s.now (length values.now) (seat + 1) n }
     ensures { (length result ≡ 8) × (take n result ≡ places_of s.now seat n values.now) }
 {
-    let mut places = [0i32; 8];
-    let mut k = 0;
-    while k < n as usize {
-        let i = whole::wide(s[seat + 1 + k]);
-        let v = values[i];
-        places[k] = v;
-        k += 1;
+    let mut places = [0; 8];
+    for k in 0..n as usize {
+        places[k] = values[s[seat + 1 + k] as usize];
     }
     places
 }
 
-// whether the constraint at start is true of the n arguments that stand after the seat
-fn satisfied(s: &[u8], seat: usize, n: u8, values: &[i32], model: &[u8], start: usize) -> bool
-    requires { Side s.now (length values.now) model.now seat n start }
-    ensures { result ≡ holds (places_of s.now seat n values.now) (tree_in model.now n start) }
-{
-    let places = gather(s, seat, n, values);
-    truth::truth(model, start, n, &places, 0)
-}
+impl<'a> Model<'a> {
+    ghost use Rattle.std.specs.Prelude.{◌≡◌, ◌<◌, length};
+    ghost use Rattle.parts.specs.Task.{Side, SideBody, true_in, met_in, half_of, body_of};
+    ghost use Rattle.parts.specs.Opened.{Opened};
 
-// whether there is no body, or it satisfies its relation's constraint
-fn met_at(s: &[u8], t: Task, values: &[i32], model: &[u8]) -> bool
-    requires { Ready s.now (length values.now) model.now t }
-    ensures { result ≡ met_in s.now model.now t values.now }
-{
-    let l = t.clause;
-    if l.body == 255 {
-        true
-    } else {
-        let b = t.body;
-        satisfied(s, l.body_at, b.places, values, model, b.rule)
+    // Reads the whole model of a book.
+    pub fn read(book: Book<'a>, bytes: &'a [u8]) -> Result<Model<'a>, Refusal>
+        ensures { Opened book.entry bytes.now result }
+    {
+        let starts = starts_of(bytes, &book)?;
+        Ok(Model {
+            book,
+            bytes,
+            starts,
+        })
     }
-}
 
-// Whether the assignment breaks the model: the constraint is true, the body met, and the head does not satisfy its own
-pub fn breaks_at(s: &[u8], t: Task, values: &[i32], model: &[u8]) -> bool
-    requires { Ready s.now (length values.now) model.now t }
-    ensures { result ≡ breaks_in s.now model.now t values.now }
-{
-    let l = t.clause;
-    if truth::truth(s, l.rule, l.variables, values, 0) {
-        if met_at(s, t, values, model) {
-            let e = t.head;
-            !satisfied(s, l.head_at, e.places, values, model, e.rule)
-        } else {
-            false
+    // relation r, whose number stands at p
+    #[tactic(auto, unfolding(crate::specs::Task::half_of))]
+    fn half(&self, r: u8, p: usize) -> Half
+        requires { r < self.now.book.header.relations }
+        ensures { result ≡ half_of self.now.book.bytes.now self.now.book.header self.now.starts r p }
+    {
+        let i = r as usize;
+        Half {
+            seat: p,
+            places: self.book.arity(i) as u8,
+            rule: self.starts[i],
         }
-    } else {
-        false
+    }
+
+    // the same of a body, where 255 is none
+    #[tactic(auto, unfolding(crate::specs::Task::body_of, cursor::specs::Steps::pick))]
+    fn body(&self, r: u8, p: usize) -> Option<Half>
+        requires { (r ≡ 255 → ⊥) → r < self.now.book.header.relations }
+        ensures { result ≡ body_of self.now.book.bytes.now self.now.book.header self.now.starts r p }
+    {
+        if r == 255 {
+            return None;
+        }
+        Some(self.half(r, p))
+    }
+
+    // Clause k of the book, in the model.
+    pub fn task(&'a self, k: usize) -> Task<'a>
+        requires { k < self.now.book.header.count }
+        ensures { (result.model.now ≡ self.now) × (result.number ≡ k) }
+    {
+        let clause = self.book.record(k);
+        Task {
+            model: self,
+            number: k,
+            clause,
+            body: self.body(clause.body, clause.body_at),
+            head: self.half(clause.head, clause.head_at),
+        }
+    }
+
+    // ---- one assignment
+
+    // whether a relation's constraint is true of its arguments
+    #[tactic(auto, unfolding(crate::specs::Task::true_in))]
+    fn holds(&self, a: Half, values: &[i32]) -> bool
+        requires { Side self.now.book.bytes.now (length values.now) self.now.bytes.now a }
+        ensures { result ≡ true_in self.now.book.bytes.now self.now.bytes.now a values.now }
+    {
+        let places = gather(self.book.bytes, a.seat, a.places, values);
+        truth::truth(self.bytes, a.rule, a.places, &places, 0)
+    }
+
+    // whether there is no body, or its relation's constraint is true
+    #[tactic(auto, unfolding(crate::specs::Task::met_in))]
+    fn met(&self, body: Option<Half>, values: &[i32]) -> bool
+        requires { SideBody self.now.book.bytes.now (length values.now) self.now.bytes.now body }
+        ensures { result ≡ met_in self.now.book.bytes.now self.now.bytes.now body values.now }
+    {
+        match body {
+            None => true,
+            Some(a) => self.holds(a, values),
+        }
     }
 }
 
-// ---- one clause
+impl<'a> Task<'a> {
+    ghost use Rattle.std.specs.Prelude.{◌≡◌, ◌≤◌, length, take};
+    ghost use Rattle.models.specs.Walk.{step, breaks};
+    ghost use Rattle.parts.specs.Opened.{constraints};
 
-// relation r in the model
-fn half_of(book: &[u8], h: book::Header, r: u8, starts: [usize; 16]) -> Half
-    requires { read book.now ≡ Good h }
-    ensures { result ≡ half_of book.now h starts r }
-{
-    if r < h.relations {
-        let i = whole::wide(r);
-        return Half {
-            places: book::arity_of(book, h, i) as u8,
-            rule: starts[i],
-        };
-    }
-    Half { places: 0, rule: 0 }
-}
-
-// Clause k of an accepted book, with the starts of the constraints of a model that was read.
-pub fn task_of(book: &[u8], h: book::Header, k: usize, starts: [usize; 16]) -> Task
-    requires accepted { read book.now ≡ Good h }
-    requires k_lt_count { k < h.count }
-    ensures { Taken book.now h k starts result }
-{
-    let l = book::record(book, h, k);
-    let body = half_of(book, h, l.body, starts);
-    let head = half_of(book, h, l.head, starts);
-    Task {
-        clause: l,
-        body: body,
-        head: head,
+    // Whether the assignment breaks the model: the clause's constraint is true, its body is met, and its head's is not true.
+    pub fn breaks(&self, values: &[i32]) -> bool
+        requires { self.now.clause.variables ≤ length values.now }
+        ensures { result ≡ breaks (meant self.now.model.now.book) (constraints self.now.model.now) (step self.now.number (take self.now.clause.variables values.now)) }
+    {
+        let m = self.model;
+        truth::truth(
+            m.book.bytes,
+            self.clause.rule,
+            self.clause.variables,
+            values,
+            0,
+        ) && m.met(self.body, values)
+            && !m.holds(self.head, values)
     }
 }

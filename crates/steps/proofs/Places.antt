@@ -1,6 +1,6 @@
 -- The starts of a list's steps, and the row of each one's clause.
 use mathlib.Core.Path.{◌≡◌, ap}
-use mathlib.Core.List.{List, []}
+use mathlib.Core.List.{List}
 use Prim.Native.Nat.{ℕ, zero, suc, ◌+◌, ◌*◌, ◌≤◌, ◌<◌}
 use native.Mathlib.Nat.{add-zero, add-suc}
 use native.Mathlib.Omega.{arith}
@@ -11,7 +11,8 @@ use Rattle.lists.specs.Places.{after, start, start-next}
 use Rattle.book.specs.declared.Header.{Header}
 use Rattle.book.specs.Meaning.{book_in}
 use Rattle.book.specs.Joined.{count-is}
-use Rattle.table.specs.Table.{Row, Tabled}
+use Rattle.table.specs.declared.Row.{Row}
+use Rattle.table.specs.Table.{IsRow}
 use Rattle.instance.specs.Values.{number_or, number_in}
 use Rattle.instance.proofs.Laws.{number_is}
 use Rattle.steps.specs.Walk.{Here, Walk}
@@ -35,20 +36,17 @@ module _ (b : Book) (z : ℕ) (l : List ℤ) (i : ℕ) where
 
 -- ---- the step at place i: k is its clause's number, as the code has it
 
-module _ {s : List ℕ} {h : Header} {t : List (List ℕ)} (w : Tabled s h t) {l : List ℤ} {z i : ℕ} (x : Here s h l z i) {k : ℕ} (q : k ≡ number_or h.count (get_or l i (pos 0))) where
+module _ {s : List ℕ} {h : Header} {l : List ℤ} {z i : ℕ} (x : Here s h l z i) {k : ℕ} (q : k ≡ number_or h.count (get_or l i (pos 0))) where
   same : number_in s h l i ≡ k
-  same = number_is s h w.good l i q
+  same = number_is s h x.good l i q
 
+  -- it has a row
   pub here-below : k < h.count
   here-below = rw same at x.there
 
-  -- a row of the table
-  pub here-cell : k < 64
-  here-cell = omega (arith, here-below, w.few)
-
   -- that of the step's clause
-  pub here-row : Row s h (number_in s h l i) (get_or t k [])
-  here-row = rw same (w.row k here-below)
+  pub here-row : {r : Row} → IsRow s h k r → IsRow s h (number_in s h l i) r
+  here-row w = rw same w
 
 -- ---- the steps of a walk
 

@@ -1,8 +1,8 @@
 use Rattle.kit.proofs.Laws.{tells-done, tells-refused}
 use Rattle.kit.proofs.answered.Goals as goal
 
-pub returns-in-Done : goal.returns-in-Done
-returns-in-Done c = tells-done _ c.in-Done.is c.told.ensures
+pub returns-in-Ok : goal.returns-in-Ok
+returns-in-Ok c = tells-done _ c.in-Ok.is c.told.ensures
 
-pub returns-in-Refused : goal.returns-in-Refused
-returns-in-Refused c = tells-refused _ c.in-Refused.is c.told-in-Refused.ensures
+pub returns-in-Err : goal.returns-in-Err
+returns-in-Err c = tells-refused _ c.in-Err.is c.told-in-Err.ensures

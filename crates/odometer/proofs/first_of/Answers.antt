@@ -5,12 +5,10 @@ use Rattle.odometer.proofs.first_of.Goals as goal
 
 pub loop-i-init : goal.loop-i-init
 unfolding lows
-loop-i-init c = (omega arith, refl)
+loop-i-init c = refl
 
 pub loop-i-preserved : goal.loop-i-preserved
-loop-i-preserved c = (omega arith, lows-more _ _ _ c.loop-i.invariant.1 c.variable_window-w.ensures (search rules) refl)
+loop-i-preserved c = lows-more _ _ _ c.loop-i.invariant c.variable_window.ensures (search rules) refl
 
 pub returns : goal.returns
-returns c =
-    let e : c.loop-i.i ≡ c.args.n = omega arith in
-    rw e at c.loop-i.invariant.1
+returns c = let e : c.loop-i.i ≡ c.args.n = omega arith in rw e at c.loop-i.invariant

@@ -1,9 +1,9 @@
 use Rattle.std.proofs.Common.{arith}
-use Rattle.steps.proofs.Places.{here-cell, here-row}
+use Rattle.steps.proofs.Places.{here-below, here-row}
 use Rattle.steps.proofs.after.Goals as goal
 
-pub cell-requires : goal.cell-requires
-cell-requires c = (here-cell c.requires.tabled c.requires.here c.number_at-k.ensures, omega arith)
+pub row-requires : goal.row-requires
+row-requires c = here-below c.requires c.number_at-k.ensures
 
 pub returns : goal.returns
-returns c = let p = c.requires in omega (arith, c.cell.ensures.0, (here-row p.tabled p.here c.number_at-k.ensures).vars)
+returns c = omega (arith, (here-row c.requires c.number_at-k.ensures c.«row».ensures).vars)
