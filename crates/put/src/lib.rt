@@ -60,10 +60,10 @@ impl<'a> Printer<'a> {
         ensures { Wrote self.old self.new (digits n) }
     {
         if n < 10 {
-            self.put(n as u8 + 48);
+            self.put(n as u8 + b'0');
         } else {
             self.decimal(n / 10);
-            self.put((n % 10) as u8 + 48);
+            self.put((n % 10) as u8 + b'0');
         }
     }
 

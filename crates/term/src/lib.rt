@@ -27,7 +27,7 @@ pub enum Name {
 }
 
 // Before a step, or after it.
-#[derive(Clone, Copy, PartialEq, Eq)]
+#[derive(Clone, Copy)]
 pub enum When {
     Before,
     After,
