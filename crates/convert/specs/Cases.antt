@@ -46,5 +46,5 @@ pub cases : (over list_d (room 33) ≡ leaving (done 31) (list_t ++ room 2))
     × (return list_t (room 14) ≡ leaving (done 13) (list_d ++ room 1))
     × (return list_t (room 12) ≡ leaving (refused 9 13) (room 12))
     × (return (take 30 list_t) (room 13) ≡ leaving (refused 13 26) (room 13))
-unfolding plus is0 leaves holds place_window variable_window head body u16_at u32_at i16_at i32_at pick kinds value_then go_on byte_at below_at relation_at variable_at skip_at number_at kind_at sum_at remains_at node_at follow constraint_at arguments_at fact_at body_at parts_at clause_at coefficients_at sum_of then grow tree_at atom_in body_in tree_of tree_in clause_in clause_or sized headed trailer top_arity arity_at arities_at record_at clauses_at read entry_at up_to book_in books.clause_number answers.answer answers.told need and_then eq_z eq_vals inside all_in first_out first_diff clause_number judge_clause judge judge_enabled walk judge_goal judge_length flat sum cut all_rows first_out_rows state_numbers size has meets judge_move first_of judge_first check_walk check_trace numbers judge_step check check_derivation same move_numbers trace_numbers back last_writers derivation_steps trace_steps as_trace as_derivation written to_trace to_derivation after on_book
+unfolding plus is0 leaves holds place_window variable_window head body u16_at u32_at i16_at i32_at pick kinds value_then go_on byte_at below_at relation_at variable_at skip_at number_at kind_at sum_at remains_at node_at follow constraint_at arguments_at fact_at body_at parts_at clause_at coefficients_at sum_of grow tree_at atom_in body_in tree_of tree_in clause_in clause_or sized headed trailer top_arity arity_at arities_at record_at clauses_at read entry_at up_to book_in books.clause_number answers.answer answers.told need and_then eq_z eq_vals inside all_in first_out first_diff clause_number judge_clause judge judge_enabled walk judge_goal judge_length flat sum cut all_rows first_out_rows state_numbers size has meets judge_move first_of judge_first check_walk check_trace numbers judge_step check check_derivation same move_numbers trace_numbers back last_writers derivation_steps trace_steps as_trace as_derivation written to_trace to_derivation after on_book
 cases = (refl, refl, refl, refl, refl)

@@ -109,5 +109,5 @@ pub table :
     -- Remainder with d = 3, r = 2: true of 5, false of −1.
     × (remainder (pos 5) ≡ true)
     × (remainder (negsuc 0) ≡ false)
-unfolding flat_map u16_at u32_at i16_at i32_at plus is0 leaves holds place_window variable_window head body pick kinds value_then go_on byte_at below_at relation_at variable_at skip_at number_at kind_at sum_at remains_at node_at follow constraint_at arguments_at fact_at body_at parts_at clause_at coefficients_at sum_of then grow tree_at atom_in body_in tree_of tree_in clause_in clause_or sized headed trailer top_arity arity_at arities_at record_at clauses_at read entry_at up_to book_in held.clause_number books.answer books.told need and_then eq_z eq_vals same inside all_in first_out first_diff clause_number judge_clause judge judge_enabled walkers.walk judge_step check judge_goal judge_length check_derivation flat sum cut all_rows first_out_rows state_numbers size move_numbers trace_numbers has meets judge_move first_of judge_first check_walk check_trace derivation_steps as_trace written to_trace after on_book derivations.answer traces.answer models.parts_at number_in in_model rule_then model_in natural width up_from assignments count rank tries_from walk walks.sum total position satisfies met breaks find outcome weighed judged examine model_answer
+unfolding flat_map u16_at u32_at i16_at i32_at plus is0 leaves holds place_window variable_window head body pick kinds value_then go_on byte_at below_at relation_at variable_at skip_at number_at kind_at sum_at remains_at node_at follow constraint_at arguments_at fact_at body_at parts_at clause_at coefficients_at sum_of grow tree_at atom_in body_in tree_of tree_in clause_in clause_or sized headed trailer top_arity arity_at arities_at record_at clauses_at read entry_at up_to book_in held.clause_number books.answer books.told need and_then eq_z eq_vals same inside all_in first_out first_diff clause_number judge_clause judge judge_enabled walkers.walk judge_step check judge_goal judge_length check_derivation flat sum cut all_rows first_out_rows state_numbers size move_numbers trace_numbers has meets judge_move first_of judge_first check_walk check_trace derivation_steps as_trace written to_trace after on_book derivations.answer traces.answer models.parts_at number_in in_model rule_then model_in natural width up_from assignments count rank tries_from walk walks.sum total position satisfies met breaks find outcome weighed judged examine model_answer
 table = (refl, refl, refl, refl, refl, refl, refl, refl, refl, refl, refl, refl, refl, refl, refl, refl, refl, refl, refl)

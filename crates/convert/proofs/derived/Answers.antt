@@ -1,4 +1,3 @@
-use Rattle.std.proofs.Common.{refl}
 use Rattle.meaning.specs.State.{flags}
 use Rattle.lists.specs.Convert.{as_derivation}
 use Rattle.book.specs.Held.{meant}

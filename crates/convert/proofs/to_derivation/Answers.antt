@@ -13,7 +13,12 @@ returns-in_err-check_in c =
     room-on _ _ _ r (derivation-stop _ _ _ _ _ e c.in_err-check_in.was (handed _ c.from_residual-in_err-check_in.ensures))
 
 pub derived-requires : goal.derived-requires
-derived-requires c = ?
+derived-requires c =
+    let good = c.of-table.result.book.accepted in
+    record {
+      trace = trace-walk _ _ _ _ _ good c.check_in.ensures c.in_ok-check_in.was;
+      relation_bound = trace-small _ _ _ _ _ good c.check_in.ensures c.in_ok-check_in.was;
+    }
 
 pub shape_of-room : goal.shape_of-room
 shape_of-room c = replies-length _ _ _ c.derived.ensures

@@ -13,7 +13,13 @@ returns-in_err-steps c =
     room-on _ _ _ r (trace-stop _ _ _ _ _ _ e c.in_err-steps.was (handed _ c.from_residual-in_err-steps.ensures))
 
 pub traced-requires : goal.traced-requires
-traced-requires c = ?
+traced-requires c =
+    let good = c.of-table.result.book.accepted in
+    let (b, r) = c.in_ok-book.ensures in
+    record {
+      walk = derivation-walk _ _ _ _ _ good c.check_in.ensures c.in_ok-steps.was;
+      long = derivation-long _ _ _ _ _ good c.check_in.ensures c.in_ok-steps.was (λ i. rw (c.of-table.ensures, b) (c.type_inv.book i));
+    }
 
 pub shape_of-room : goal.shape_of-room
 shape_of-room c = replies-length _ _ _ c.traced.ensures
