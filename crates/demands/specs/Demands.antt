@@ -8,7 +8,6 @@ use Rattle.std.proofs.Math.Option.{none, some}
 use Rattle.cursor.specs.declared.Clause as clauses
 pub mod Words
 use Words.*
-use Rattle.reply.specs.Answer.{Outcome}
 
 -- ==== Demand 1: every book, list and model, of any content, gets an answer by number
 
@@ -76,7 +75,7 @@ pub record Demand2 (s : List ℕ) : Type 0 where
   -- ---- The book -------------------------------------------------------------------------------------------
   -- it is accepted exactly when it is the writing of a book within the limits, of at most 60,000 bytes
   pub read-exactly : (x : Reading) → ReadBook s x
-      → ((h : Header) × (x ≡ Good h)) ↔ ((b : Book) × (encode b ≡ s) × Limits b × (length s ≤ 60000))
+      → ((h : Header) × (x ≡ Ok h)) ↔ ((b : Book) × (encode b ≡ s) × Limits b × (length s ≤ 60000))
   -- and that is the book that the other calls speak of
   pub accepts-exactly : (b : Book) → Holds s b ↔ ((encode b ≡ s) × Limits b × (length s ≤ 60000))
   -- no two byte strings are one book
@@ -90,10 +89,10 @@ pub record Demand2 (s : List ℕ) : Type 0 where
   -- `Asked`: the goal fits the book, and the list has 1 to 1,000,000 numbers.
   -- accepted exactly when the list is the numbers of a derivation d of the goal in the book that the bytes hold
   pub derivation-exact : (l : List ℤ) (g : Fact) (x : Outcome) → CheckDerivation s l g x
-      → (x ≡ Done 0) ↔ ((b : Book) × Holds s b × Asked b g.rel g.vals l × (d : List Step) × (numbers d ≡ l) × Derives b d g)
+      → (x ≡ Ok 0) ↔ ((b : Book) × Holds s b × Asked b g.rel g.vals l × (d : List Step) × (numbers d ≡ l) × Derives b d g)
   -- accepted exactly when the list is the numbers of a trace, its first state σ and its moves ms, that reaches the goal there
   pub trace-exact : (l : List ℤ) (g : Fact) (x : Outcome) → CheckTrace s l g x
-      → (x ≡ Done 0) ↔ ((b : Book) × Holds s b × Asked b g.rel g.vals l
+      → (x ≡ Ok 0) ↔ ((b : Book) × Holds s b × Asked b g.rel g.vals l
       × (σ : State flags) × (ms : List (Move b (Flagged b))) × (trace_numbers b flags σ ms ≡ l) × Reaches b (Flagged b) σ ms g)
   -- each of its steps is document 01's, as a relation of two states (`StepsTo`): an instance whose body is met; afterwards the head's flag is set, its
   -- places are its values, and all else is as before
@@ -129,8 +128,8 @@ pub record Demand2 (s : List ℕ) : Type 0 where
   -- ---- The text -------------------------------------------------------------------------------------------
   -- a room that holds it gets the text of the book, character for character; for a shorter one the reply is the needed length
   pub text-written : (b : Book) → Holds s b → (d e : List ℕ) (x : Outcome) → Print s d x e → length (text b) ≤ length d
-      → (x ≡ Done (length (text b))) × (e ≡ text b ++ drop (length (text b)) d)
-  pub text-short : (b : Book) → Holds s b → (d e : List ℕ) (x : Outcome) → Print s d x e → length d < length (text b) → x ≡ Refused (refuse 9 (length (text b)))
+      → (x ≡ Ok (length (text b))) × (e ≡ text b ++ drop (length (text b)) d)
+  pub text-short : (b : Book) → Holds s b → (d e : List ℕ) (x : Outcome) → Print s d x e → length d < length (text b) → x ≡ Err (refuse 9 (length (text b)))
   -- a parser that knows nothing of the printer gets its lines back
   pub text-parses : (b : Book) → parse (text b) ≡ some (script b)
 
@@ -155,19 +154,19 @@ pub record Demand3 (s : List ℕ) (b : Book) : Type 0 where
   -- ---- On the conversions: `as_trace` and `as_derivation` are those two as lists of numbers -----------------
   -- a trace is written exactly when the derivation is accepted, and a million numbers and the room hold the trace
   pub to-trace-exact : (l d e : List ℤ) (g : Fact) (x : Outcome) → ToTrace s l g d x e
-      → ((n : ℕ) × (x ≡ Done n)) ↔ (IsDerivation s l g × (length (as_trace b flags l) ≤ 1000000) × (length (as_trace b flags l) ≤ length d))
+      → ((n : ℕ) × (x ≡ Ok n)) ↔ (IsDerivation s l g × (length (as_trace b flags l) ≤ 1000000) × (length (as_trace b flags l) ≤ length d))
   -- it is accepted for the same goal, and has as many steps
-  pub to-trace-accepted : (l d e : List ℤ) (g : Fact) (n : ℕ) → ToTrace s l g d (Done n) e
+  pub to-trace-accepted : (l d e : List ℤ) (g : Fact) (n : ℕ) → ToTrace s l g d (Ok n) e
       → (take n e ≡ as_trace b flags l) × IsTrace s (take n e) g × (length (trace_steps b flags (take n e)) ≡ length (derivation_steps b l))
   -- a derivation is written exactly when the trace is accepted, and the room holds the derivation
   pub to-derivation-exact : (l d e : List ℤ) (g : Fact) (x : Outcome) → ToDerivation s l g d x e
-      → ((n : ℕ) × (x ≡ Done n)) ↔ (IsTrace s l g × (length (as_derivation b flags g.rel l) ≤ length d))
+      → ((n : ℕ) × (x ≡ Ok n)) ↔ (IsTrace s l g × (length (as_derivation b flags g.rel l) ≤ length d))
   -- it is accepted for the same goal, and has no more steps
-  pub to-derivation-accepted : (l d e : List ℤ) (g : Fact) (n : ℕ) → ToDerivation s l g d (Done n) e
+  pub to-derivation-accepted : (l d e : List ℤ) (g : Fact) (n : ℕ) → ToDerivation s l g d (Ok n) e
       → (take n e ≡ as_derivation b flags g.rel l) × IsDerivation s (take n e) g × (length (derivation_steps b (take n e)) ≤ length (trace_steps b flags l))
   -- over and back is the same list, number for number, in every room d' that holds it
-  pub there_and_back : (l d e : List ℤ) (g : Fact) (n : ℕ) → ToTrace s l g d (Done n) e → (d' e' : List ℤ) (x : Outcome) → length l ≤ length d'
-      → ToDerivation s (take n e) g d' x e' → (x ≡ Done (length l)) × (take (length l) e' ≡ l)
+  pub there_and_back : (l d e : List ℤ) (g : Fact) (n : ℕ) → ToTrace s l g d (Ok n) e → (d' e' : List ℤ) (x : Outcome) → length l ≤ length d'
+      → ToDerivation s (take n e) g d' x e' → (x ≡ Ok (length l)) × (take (length l) e' ≡ l)
   -- some list is accepted as a trace exactly when one is accepted as a derivation whose trace a million numbers hold
   pub either_way : (g : Fact) → ((l : List ℤ) × IsTrace s l g) ↔ ((l : List ℤ) × IsDerivation s l g × (length (as_trace b flags l) ≤ 1000000))
   -- ---- On models ------------------------------------------------------------------------------------------

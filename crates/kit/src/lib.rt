@@ -123,6 +123,7 @@ pub fn ruahmitz_model(
     let a = model::check(book, model);
     *count = a.count as u64;
     *clause = a.clause as u64;
-    *values = a.values;
+    let v = a.values;
+    *values = v;
     answered(a.answer, place)
 }

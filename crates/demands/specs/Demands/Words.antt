@@ -1,6 +1,6 @@
 -- The words of the demands: where each is defined, and the calls by name.
-use Rattle.std.specs.Prelude.{ℕ, ◌≡◌, List, [], ◌∷◌, T, ℤ, Ok, Err}
-use Rattle.reply.specs.Answer.{says, Answers, Outcome}
+use Rattle.std.specs.Prelude.{ℕ, ◌≡◌, List, [], ◌∷◌, T, ℤ}
+use Rattle.reply.specs.Answer.{says, Answers}
 use Rattle.reply.specs.Among.{has}
 use Rattle.reply.specs.Room.{Due, Leaves}
 use Rattle.book.specs.Answer as books
@@ -44,9 +44,11 @@ pub use Rattle.sexp.specs.Parse.{parse}
 -- what a call answers: done with the length written (`ok`: with nothing), or refused with number and place; and what a success does to a room
 pub use Rattle.reply.specs.Answer.{Answer, done, refused, ok, number, place}
 pub use Rattle.reply.specs.Room.{Front}
--- the code's own replies, with their cases (`Ok`, `Err`, `Ok`); a refusal is `refuse number place`
-pub use Rattle.reply.specs.Answer.{refuse}
+-- the code's own replies: `Ok` with what was written or read, or `Err` with the refusal, which is `refuse number place`
+pub use Rattle.std.specs.Prelude.{Ok, Err}
+pub use Rattle.reply.specs.Answer.{Outcome, refuse}
 pub use Rattle.book.specs.declared.Header.{Header}
+pub use Rattle.book.specs.Read.{Reading}
 pub use Rattle.book.specs.Joined.{Held}
 -- the model check's reply, and what it says: its answer, count, clause and values
 pub use Rattle.model.specs.declared.Reply.{Reply}
@@ -54,7 +56,6 @@ pub use Rattle.model.specs.Reply.{told}
 pub use Rattle.models.specs.Answer.{number_of, plain}
 -- the promise of ruahmitz_constraint: it returns the length r, and writes the start q
 pub use Rattle.kit.specs.Promises.{Hands}
-use Rattle.book.specs.Read.{Reading}
 
 -- ---- what document 01 says of the bytes s of a book
 
