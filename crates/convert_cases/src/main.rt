@@ -8,6 +8,9 @@
 // must be printed is worked out by tests/convert_cases.py.
 #![tactic(auto)]
 
+ghost use Rattle.std.specs.Prelude.{◌≡◌, ◌+◌, ◌*◌, ◌%◌};
+ghost use Rattle.std.specs.Int.{w32, cast_unsigned};
+
 use console::{Case, Form, Space};
 use std::io;
 use std::io::{Read, Write};
@@ -20,7 +23,9 @@ fn fill(room: &mut [i32]) {
 }
 
 // The checksum of what came before, and one number more.
-fn summed(sum: u32, n: i32) -> u32 {
+fn summed(sum: u32, n: i32) -> u32
+    ensures { result ≡ (sum * 65537 + cast_unsigned w32 n) % 2147483647 }
+{
     ((u64::from(sum) * 65537 + u64::from(n.cast_unsigned())) % 2147483647) as u32
 }
 
