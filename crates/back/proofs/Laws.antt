@@ -3,12 +3,12 @@ use mathlib.Core.Path.{◌≡◌, refl, sym, ap, ◌∙◌}
 use mathlib.Core.Logic.{◌≢◌}
 use mathlib.Core.Bool.{Bool, true, false}
 use mathlib.Core.Option.{some}
-use mathlib.Core.List.{List, ◌∷◌, ◌++◌, append_assoc}
+use mathlib.Core.List.{List, [], ◌∷◌, ◌++◌, append_assoc}
 use Prim.Native.Nat.{ℕ, zero, suc, ◌+◌, ◌-◌, ◌*◌, ◌≤◌, ◌<◌}
 use native.Mathlib.Decide.{ℕ_discrete, dec_lt}
 use native.Mathlib.Omega.{arith}
-use lib.ListN.{length, get_or, set, take, drop, replicate, length-set, length-append}
-use lib.Seq.{get_or-set_same, get_or-set_other}
+use lib.ListN.{length, get_or, set, take, drop, replicate, length-set, length-append, get_or-append}
+use lib.Seq.{get_or-set_same, get_or-set_other, get_or-append_seam, get_or-take, length-take-le}
 use lib.IntN.{ℤ, pos}
 use lib.Dec.{eqb}
 use borrow.Author.Tests.{eqb-true, eqb-false}
@@ -319,6 +319,10 @@ module _ {s : List ℕ} {h : Header} {C : Control} {l : List ℤ} {z : ℕ} (t :
 
 -- ---- a block
 
+-- the places of steps that follow each other, the first of them step j
+pub record Placed (b : Book) (C : Control) (l : List ℤ) (j : ℕ) (xs : List ℕ) : Type 0 where
+  pub each : (k : ℕ) → k < length xs → (get_or xs k 0 ≡ trace_start b C l (j + k)) × (get_or xs k 0 < length l)
+
 module _ {s : List ℕ} {h : Header} {C : Control} {l : List ℤ} {z : ℕ} (t : Trace s h C l z) where
   module _ (m i : ℕ) (block : List ℕ) (r : ℕ) (e : i ≡ start (book_in s h) z l z (m * 512)) (f : Filled (book_in s h) z l i block r) where
     place : (k : ℕ) → start (book_in s h) z l i k ≡ trace_start (book_in s h) C l (m * 512 + k)
@@ -328,34 +332,15 @@ module _ {s : List ℕ} {h : Header} {C : Control} {l : List ℤ} {z : ℕ} (t :
     block-place : (k : ℕ) → k < r → (get_or block k 0 ≡ trace_start (book_in s h) C l (m * 512 + k)) × (get_or block k 0 < length l)
     block-place k q = let (p, y) = f.each k q in (p ∙ place k, rw p y)
 
-    -- at the last of k of them
-    module _ (k : ℕ) (some : 0 < k) (few : k ≤ r) where
-      abbrev j : ℕ
-      j = m * 512 + (k - 1)
+    block-long : length (take r block) ≡ r
+    block-long = length-take-le r block (omega (arith, f.few, f.long))
 
-      next : m * 512 + k ≡ j + 1
-      next = omega (arith, some)
-
-      starts : (get_or block (k - 1) 0 ≡ trace_start (book_in s h) C l j) × (get_or block (k - 1) 0 < length l)
-      starts = block-place (k - 1) (omega (arith, some, few))
-
-      at-step : trace_start (book_in s h) C l j < length l
-      at-step = rw starts.0 at starts.1
-
-      pub block-here : Here s h l z (get_or block (k - 1) 0)
-      block-here = here_of t _ j starts.0 starts.1
-
-      module _ {w : Wanted} {d : List ℤ} where
-        pub block-due : Left (book_in s h) C l (m * 512 + k) w d → Due (book_in s h) l (get_or block (k - 1) 0) w d
-        block-due left = rw starts.0 (due-of (book_in s h) C l (every_of t) j at-step w d (left_at left next))
-
-        pub block-more : {n : ℕ} {v : Wanted} {c : List ℤ} {u : Wanted} {e : List ℤ} → Gone (book_in s h) C l n v c (m * 512 + k) w d
-            → Stepped (book_in s h) l (get_or block (k - 1) 0) w d u e → Gone (book_in s h) C l n v c j u e
-        block-more g y = gone-join (gone_at g next) (gone-step (book_in s h) C l (every_of t) j at-step w d (left_at g.left next) (rw starts.0 at y))
+    pub block-placed : Placed (book_in s h) C l (m * 512) (take r block)
+    block-placed = record { each = λ k q. let y : k < r = omega (arith, block-long) in rw (get_or-take r block k 0 y) (block-place k y) }
 
     -- the walk back over the block begins
-    pub block_start : (w : Wanted) (d : List ℤ) → Left (book_in s h) C l (m * 512 + 512) w d → Gone (book_in s h) C l (m * 512 + 512) w d (m * 512 + r) w d
-    block_start w d left = gone-start (book_in s h) C l (every_of t) (m * 512) r w d f.few full up left
+    pub block_start : (w : Wanted) (d : List ℤ) → Left (book_in s h) C l (m * 512 + 512) w d → Gone (book_in s h) C l (m * 512 + 512) w d (m * 512 + length (take r block)) w d
+    block_start w d left = rw block-long (gone-start (book_in s h) C l (every_of t) (m * 512) r w d f.few full up left)
       where
         full : r < 512 → length l ≤ trace_start (book_in s h) C l (m * 512 + r)
         full k = omega (arith, f.full k, place r)
@@ -365,6 +350,37 @@ module _ {s : List ℕ} {h : Header} {C : Control} {l : List ℤ} {z : ℕ} (t :
 
         up : trace_start (book_in s h) C l (m * 512 + r) ≤ trace_start (book_in s h) C l (m * 512 + 512)
         up = omega (arith, start-far (book_in s h) z l i t.some r (512 - r), ap (start (book_in s h) z l i) same, place r, place 512)
+
+  -- the last of the steps that are left
+  module _ (m : ℕ) (xs ys : List ℕ) (x : ℕ) (p : Placed (book_in s h) C l m xs) (e : xs ≡ ys ++ (x ∷ [])) where
+    more : length xs ≡ length ys + 1
+    more = rw (e, length-append) refl
+
+    last : get_or xs (length ys) 0 ≡ x
+    last = rw e (get_or-append_seam ys x [] 0)
+
+    at-step : (x ≡ trace_start (book_in s h) C l (m + length ys)) × (x < length l)
+    at-step = rw last at (p.each (length ys) (omega (arith, more)))
+
+    before-end : trace_start (book_in s h) C l (m + length ys) < length l
+    before-end = rw at-step.0 at at-step.1
+
+    next : m + length xs ≡ m + length ys + 1
+    next = omega (arith, more)
+
+    pub placed-rest : Placed (book_in s h) C l m ys
+    placed-rest = record { each = λ k q. rw (e, get_or-append ys (x ∷ []) 0 k q) at (p.each k (omega (arith, more))) }
+
+    pub placed-here : Here s h l z x
+    placed-here = here_of t x (m + length ys) at-step.0 at-step.1
+
+    module _ {w : Wanted} {d : List ℤ} where
+      pub placed-due : Left (book_in s h) C l (m + length xs) w d → Due (book_in s h) l x w d
+      placed-due left = rw at-step.0 (due-of (book_in s h) C l (every_of t) (m + length ys) before-end w d (left_at left next))
+
+      pub placed-more : {n : ℕ} {v : Wanted} {c : List ℤ} {u : Wanted} {f : List ℤ} → Gone (book_in s h) C l n v c (m + length xs) w d
+          → Stepped (book_in s h) l x w d u f → Gone (book_in s h) C l n v c (m + length ys) u f
+      placed-more g y = gone-join (gone_at g next) (gone-step (book_in s h) C l (every_of t) (m + length ys) before-end w d (left_at g.left next) (rw at-step.0 at y))
 
   module _ (marks : List ℕ) (m r n : ℕ) (d : List ℤ) (w : Marked (book_in s h) z l marks m) where
     all-coming : coming (book_in s h) C l (some r) (m * 512) ≡ as_derivation (book_in s h) C r l

@@ -152,8 +152,8 @@ impl<'a> Trace<'a> {
         let mut block = [0u32; 512];
         let n = self.fill(marks[m] as usize, &mut block);
         let mut w = wanted;
-        for k in (0..n).rev() {
-            w = self.step_back(block[k] as usize, w, room);
+        for start in block[..n].iter().rev() {
+            w = self.step_back(*start as usize, w, room);
         }
         w
     }

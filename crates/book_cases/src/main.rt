@@ -21,16 +21,9 @@ fn print_parts<W: Write>(out: &mut W, book: &[u8], last: usize) -> io::Result<()
 }
 
 fn print_line<W: Write>(out: &mut W, book: &[u8]) -> io::Result<()> {
-    match book::read_book(book) {
-        book::Reading::Good(h) => {
-            console::print_answer(out, reply::Answer::Done(0))?;
-            print_parts(out, book, h.count)
-        }
-        book::Reading::Refused(r) => {
-            console::print_answer(out, reply::Answer::Refused(r))?;
-            print_parts(out, book, 0)
-        }
-    }
+    let read = book::read_book(book);
+    console::print_answer(out, read.map(|_| 0))?;
+    print_parts(out, book, read.map_or(0, |h| h.count))
 }
 
 // Reads the next case and prints its line; false where there is no whole case left.

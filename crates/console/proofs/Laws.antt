@@ -13,8 +13,9 @@ use lib.Signed.{mag}
 use mir.Syntax.{w32}
 use mir.Val.{hbits, to_z, of_z}
 use Rattle.whole.specs.Whole.{own}
-use Rattle.reply.specs.declared.Answer.TheVariants.{Done}
-use Rattle.reply.specs.Answer.{says}
+use Rattle.std.specs.Prelude.{Ok, Err}
+use Rattle.std.specs.Result.{result_unwrap_or}
+use Rattle.reply.specs.Answer.{Outcome, says}
 use Rattle.reply.specs.Room.{Due, Fair, Leaves}
 use Rattle.console.specs.Console.{again}
 
@@ -45,8 +46,9 @@ take-put_behind xs ys d k n h m =
     ∙ (λ i. take_at (take d xs) rest d front i ++ take n (drop_at (take d xs) rest d front i))
     ∙ ap (λ l. take d xs ++ l) (take-append-le n ys (post_of d k xs) m)
 
--- ---- what a call with a room wrote lies within the room
+-- ---- what a call with a room wrote, nothing where it refused, lies within the room
 
-pub done-within : {A : Type 0} {d e : List A} {y : Due A} {n : ℕ} → Fair d y → Leaves y (Done n) e → n ≤ length e
+pub wrote-within : {A : Type 0} {d e : List A} {y : Due A} {x : Outcome} → Fair d y → Leaves y x e → result_unwrap_or x 0 ≤ length e
 unfolding says
-done-within f w = let front = f.done-room (sym w.tells) in rw w.room (omega (arith, front.0, front.1))
+wrote-within {x = Ok n} f w = let front = f.done-room (sym w.tells) in rw w.room (omega (arith, front.0, front.1))
+wrote-within {x = Err r} f w = omega arith

@@ -28,8 +28,8 @@ pub fn run_all<F: FnMut() -> io::Result<bool>>(mut run_case: F) -> io::Result<()
 // A call's answer: 0 and the length that was written, or the refusal's number and place.
 pub fn print_answer<W: Write>(out: &mut W, answer: reply::Answer) -> io::Result<()> {
     match answer {
-        reply::Answer::Done(n) => write!(out, "0 at {n}"),
-        reply::Answer::Refused(r) => write!(out, "{} at {}", r.number, r.place),
+        Ok(n) => write!(out, "0 at {n}"),
+        Err(r) => write!(out, "{} at {}", r.number, r.place),
     }
 }
 

@@ -32,7 +32,6 @@ use Rattle.book.specs.Read.{read}
 use Rattle.book.specs.Meaning.{book_in}
 use Rattle.book.specs.Trailer.{read-trailed}
 use Rattle.book.specs.Arities.{relations-are}
-use Rattle.book.proofs.Calls.{book-good, calls}
 use Rattle.encode.specs.Written.{limits-read}
 use Rattle.steps.specs.Put.{Put}
 use Rattle.steps.specs.Walk.{Walk}
@@ -175,7 +174,3 @@ module _ (b : Book) (r : ℕ) (vals l d : List ℤ) {y x : Outcome} where
     pub trace-stop : {g : Refusal} → y ≡ Err g → x ≡ Err g → Leaves (to_trace b flags r vals l d) x d
     unfolding to_trace and_then
     trace-stop {g} q e = rw e (replies-stop _ (as_trace b flags l) d g (rw (derived-no b r vals l n p q)))
-
-pub ruleset conversions = (calls, derivation-on, derivation-stop, trace-on, trace-stop)
-
-pub ruleset accepted = (book-good, trace-walk, trace-small, derivation-walk, derivation-long)

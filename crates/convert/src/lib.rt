@@ -25,13 +25,14 @@ fn derived(table: &Table, list: &[i32], relation: usize, room: &mut [i32]) -> re
     ensures { Leaves (written ok (as_derivation (meant table.now.book) state.flags relation list.now) room.old) result room.new }
 {
     let size = state::size(&table.book);
+    let trace = back::Trace { table, list, size };
     let mut marks = [0u32; 1024];
-    let measured = back::measure(table, list, size, relation, &mut marks);
+    let measured = trace.measure(relation, &mut marks);
     let n = measured.numbers;
     if room.len() < n {
         return refuse(9, n);
     }
-    back::write(table, list, size, relation, &marks, measured, room);
+    trace.write(relation, &marks, measured, room);
     Ok(n)
 }
 

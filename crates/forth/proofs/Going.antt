@@ -17,11 +17,13 @@ use Rattle.lists.proofs.Places.{trace-due-more}
 use Rattle.book.specs.declared.Header.{Header}
 use Rattle.book.specs.Read.{read}
 use Rattle.book.specs.Meaning.{book_in}
-use Rattle.table.specs.Table.{Tabled}
+use Rattle.table.specs.declared.Row.{Row}
+use Rattle.table.specs.Table.{IsRow}
 use Rattle.instance.specs.Values.{number_or, number_in}
 use Rattle.instance.proofs.Laws.{number_is, values_length}
-use Rattle.instance.proofs.Atoms.{head_at, head-there, head-below, head-full}
-use Rattle.state.specs.State.{state_of, row_put, Sized}
+use Rattle.instance.proofs.Atoms.{head_at, head-there}
+use Rattle.state.specs.declared.State as code
+use Rattle.state.specs.State.{state_of, held, row_put, Sized}
 use Rattle.state.specs.Laws.{state-put, state-many}
 use Rattle.state.proofs.Shape.{relations-few, arities-few, arities-small}
 use Rattle.steps.specs.Put.{Put, put-length, put-join, put-none, put_as, put_then}
@@ -99,26 +101,30 @@ state-size b fs vs = state-many b.arities fs vs b
 pub first-state : (s : List ℕ) (h : Header) → read s ≡ Ok h → state_of (book_in s h).arities (replicate 16 false) (low_rows (place_window (book_in s h)) (replicate 16 8)) ≡ first (book_in s h) flags
 first-state s h good = state-low (book_in s h) (arities-few s h good) (arities-small s h good)
 
+pub low-first : (s : List ℕ) (h : Header) → read s ≡ Ok h → (σ : code.State) → (σ.flags ≡ replicate 16 false) × (σ.rows ≡ low_rows (place_window (book_in s h)) (replicate 16 8))
+    → held (book_in s h) σ ≡ first (book_in s h) flags
+low-first s h good σ (p, q) = rw (p, q) (first-state s h good)
+
 -- a step's head is put in: its flag is set and its values stand in its row
-module _ {s : List ℕ} {h : Header} {t : List (List ℕ)} (w : Tabled s h t) {k : ℕ} (below : k < h.count) (l : List ℤ) (j : ℕ) (room : j + (clause_at (book_in s h) k).vars ≤ length l)
-    (fs : List Bool) (vs : List (List ℤ)) (few : length fs ≡ 16) (many : length vs ≡ 16) {r : ℕ} (q : r ≡ get_or (get_or t k []) 4 0) where
+module _ (s : List ℕ) (h : Header) (good : read s ≡ Ok h) (l : List ℤ) (j : ℕ) {k : ℕ} {r : Row} (w : IsRow s h k r) (room : j + (clause_at (book_in s h) k).vars ≤ length l)
+    (fs : List Bool) (vs : List (List ℤ)) (few : length fs ≡ 16) (many : length vs ≡ 16) where
   abbrev fact : Fact
   fact = head (book_in s h) (step_at (book_in s h) k (drop j l))
 
-  own : fact.rel ≡ r
-  own = ap (λ (f : Fact). f.rel) (head_at w below l j) ∙ sym q
+  own : fact.rel ≡ r.head.relation
+  own = ap (λ (f : Fact). f.rel) (head_at w l j)
 
-  pub head-set : state_of (book_in s h).arities (set fs r true) (row_put (head (book_in s h) (step_at (book_in s h) k (drop j l))) vs)
-      ≡ write flags (head (book_in s h) (step_at (book_in s h) k (drop j l))) (state_of (book_in s h).arities fs vs)
+  pub head-set : state_of (book_in s h).arities (set fs fact.rel true) (row_put fact vs) ≡ write flags fact (state_of (book_in s h).arities fs vs)
   head-set =
-      let small = relations-few s h w.good in
-      let full : length fact.vals ≡ get_or (book_in s h).arities fact.rel 0 = rw (head_at w below l j) (values_length l (head-there w below l j room) ∙ head-full w below l j) in
-      rw (← own) (state-put (book_in s h).arities fs vs fact full (omega (arith, own, q, head-below w below l j)) (omega (arith, own, q, head-below w below l j)))
+      let small = relations-few s h good in
+      let below = w.head.below in
+      let full : length fact.vals ≡ get_or (book_in s h).arities fact.rel 0 = rw (head_at w l j) (values_length l (head-there w l j room) ∙ w.head.full) in
+      state-put (book_in s h).arities fs vs fact full (omega (arith, own)) (omega (arith, own))
 
--- ---- one turn: k is the clause of the step at i, m its number of variables and r its head's relation, and the head was put into the rows
+-- ---- one turn: k is the clause of the step at i, and its head was put into the state σ
 
-module _ {s : List ℕ} {h : Header} {t : List (List ℕ)} (table : Tabled s h t) {l : List ℤ} (walk : Walk s h l 0 0) {z : ℕ} (sized : Sized (book_in s h) flags z) {d due : List ℤ} (fits : z + length due ≤ length d)
-    (fs : List Bool) (vs : List (List ℤ)) {e : List ℤ} {at i : ℕ} (w : Going (book_in s h) flags l z d due (state_of (book_in s h).arities fs vs) e at i) (inside : i < length l) where
+module _ (s : List ℕ) (h : Header) (good : read s ≡ Ok h) {l : List ℤ} (walk : Walk s h l 0 0) {z : ℕ} (sized : Sized (book_in s h) flags z) {d due : List ℤ} (fits : z + length due ≤ length d)
+    (σ : code.State) {e : List ℤ} {at i : ℕ} (w : Going (book_in s h) flags l z d due (held (book_in s h) σ) e at i) (inside : i < length l) where
   pub step-here : Here s h l 0 i
   step-here = here-at s h l 0 walk w.number i w.place inside
 
@@ -127,36 +133,34 @@ module _ {s : List ℕ} {h : Header} {t : List (List ℕ)} (table : Tabled s h t
 
   module _ {k : ℕ} (q : k ≡ number_or h.count (get_or l i (pos 0))) where
     same : number_in s h l i ≡ k
-    same = number_is s h table.good l i q
+    same = number_is s h good l i q
 
     pub step-below : k < h.count
-    step-below = here-below table step-here q
+    step-below = here-below step-here q
 
     pub step_room : i + 1 + (clause_at (book_in s h) k).vars ≤ length l
     step_room = rw (← same) (omega (arith, step-here.whole))
 
-    pub step_small : {r : ℕ} → r ≡ get_or (get_or t k []) 4 0 → r < 16
-    step_small u = omega (arith, u, head-below table step-below l (i + 1), relations-few s h table.good)
+    abbrev put_in : Fact
+    put_in = head (book_in s h) (step_at (book_in s h) k (drop (i + 1) l))
 
-    module _ {m r : ℕ} (v : m ≡ get_or (get_or t k []) 0 0) (u : r ≡ get_or (get_or t k []) 4 0) (few : length fs ≡ 16) (many : length vs ≡ 16)
-        {vs' : List (List ℤ)} (p : vs' ≡ row_put (head (book_in s h) (step_at (book_in s h) k (drop (i + 1) l))) vs) where
-      abbrev σ : State flags
-      σ = state_of (book_in s h).arities (set fs r true) vs'
+    module _ {r : Row} (v : IsRow s h k r) (few : length σ.flags ≡ 16) (many : length σ.rows ≡ 16)
+        (σ' : code.State) (p : σ'.flags ≡ set σ.flags put_in.rel true) (u : σ'.rows ≡ row_put put_in σ.rows) where
+      next : held (book_in s h) σ' ≡ write flags (head (book_in s h) (step_here (book_in s h) l i)) (held (book_in s h) σ)
+      next = rw (same, p, u) (head-set s h good l (i + 1) v step_room σ.flags σ.rows few many)
 
-      next : σ ≡ write flags (head (book_in s h) (step_here (book_in s h) l i)) (state_of (book_in s h).arities fs vs)
-      next = rw (same, p) (head-set table step-below l (i + 1) step_room fs vs few many u)
+      vars : 1 + r.variables ≡ 1 + (clause_here (book_in s h) l i).vars
+      vars = omega (arith, (here-row step-here q v).vars)
 
-      vars : 1 + m ≡ 1 + (clause_here (book_in s h) l i).vars
-      vars = omega (arith, v, (here-row table step-here q).vars)
+      long : length (state_numbers (book_in s h) flags (held (book_in s h) σ')) ≡ z
+      long = state-size (book_in s h) σ'.flags σ'.rows ∙ sym sized.is
 
-      long : length (state_numbers (book_in s h) flags σ) ≡ z
-      long = state-size (book_in s h) (set fs r true) vs' ∙ sym sized.is
+      pub move_asks : (i + (1 + r.variables) ≤ length l) × (at + (1 + r.variables) + z ≤ length e)
+      move_asks = going-fits w fits inside one step-here.whole (held (book_in s h) σ') next long vars
 
-      pub move_asks : (i + (1 + m) ≤ length l) × (at + (1 + m) + z ≤ length e)
-      move_asks = going-fits w fits inside one step-here.whole σ next long vars
-
-      pub move-more : {f : List ℤ} → Put e f at (take (1 + m) (drop i l) ++ state_numbers (book_in s h) flags σ) → Going (book_in s h) flags l z d due σ f (at + (1 + m) + z) (i + (1 + m))
-      move-more = going_more w fits inside one step-here.whole σ next long vars
+      pub move-more : {f : List ℤ} → Put e f at (take (1 + r.variables) (drop i l) ++ state_numbers (book_in s h) flags (held (book_in s h) σ'))
+          → Going (book_in s h) flags l z d due (held (book_in s h) σ') f (at + (1 + r.variables) + z) (i + (1 + r.variables))
+      move-more = going_more w fits inside one step-here.whole (held (book_in s h) σ') next long vars
 
 -- ---- the first state, then the walk
 
@@ -167,9 +171,9 @@ module _ (s : List ℕ) (h : Header) (l : List ℤ) (good : read s ≡ Ok h) whe
   pub trace-many : length (as_trace (book_in s h) flags l) ≡ size (book_in s h) flags + length (trace_due (book_in s h) flags l 0 (first (book_in s h) flags))
   trace-many = rw (trace-due-all (book_in s h) flags l, length-append) (omega (arith, first-length))
 
-  pub trace-put : {d e f : List ℤ} (z : ℕ) {vs : List (List ℤ)} → Sized (book_in s h) flags z → vs ≡ low_rows (place_window (book_in s h)) (replicate 16 8)
-      → Put d e 0 (state_numbers (book_in s h) flags (state_of (book_in s h).arities (replicate 16 false) vs)) → Put e f z (trace_due (book_in s h) flags l 0 (first (book_in s h) flags))
+  pub trace-put : {d e f : List ℤ} (z : ℕ) (σ : code.State) → Sized (book_in s h) flags z → held (book_in s h) σ ≡ first (book_in s h) flags
+      → Put d e 0 (state_numbers (book_in s h) flags (held (book_in s h) σ)) → Put e f z (trace_due (book_in s h) flags l 0 (first (book_in s h) flags))
       → Put d f 0 (as_trace (book_in s h) flags l)
-  trace-put z sized low w u =
+  trace-put z σ sized low w u =
       let zero : 0 + z ≡ z = omega arith in
-      put_as (put_then z (first-length ∙ sym sized.is) (rw (low, first-state s h good) at w) (rw zero u)) (sym (trace-due-all (book_in s h) flags l))
+      put_as (put_then z (first-length ∙ sym sized.is) (rw low at w) (rw zero u)) (sym (trace-due-all (book_in s h) flags l))

@@ -3,7 +3,7 @@
 
 ghost use Rattle.std.specs.Prelude.{◌≡◌, false, map, ◌++◌, ◌+◌, ◌<◌, ◌≤◌, length, take, drop, replicate};
 ghost use Rattle.meaning.specs.Book.{place_window};
-ghost use Rattle.meaning.specs.State as state;
+ghost use Rattle.meaning.specs.State as meanings;
 ghost use Rattle.meaning.specs.State.{bit, low_row, low_rows, first};
 ghost use Rattle.lists.specs.Trace.{flat, sum, size as state_size, state_numbers};
 ghost use Rattle.lists.specs.Convert.{as_trace};
@@ -51,8 +51,8 @@ fn write_places(book: &Book, state: &State, room: &mut [i32], at: usize)
 
 // a state's numbers
 fn write_state(book: &Book, state: &State, room: &mut [i32], at: usize)
-    requires { at + state_size (meant book.now) state.flags ≤ length room.old }
-    ensures { Put room.old room.new at (state_numbers (meant book.now) state.flags (held (meant book.now) state.now)) }
+    requires { at + state_size (meant book.now) meanings.flags ≤ length room.old }
+    ensures { Put room.old room.new at (state_numbers (meant book.now) meanings.flags (held (meant book.now) state.now)) }
 {
     let n = book.relations();
     write_flags(&state.flags, n, room, at);
@@ -69,8 +69,8 @@ fn write_move(
     room: &mut [i32],
     at: usize,
 )
-    requires { (i + n ≤ length list.now) × (at + n + state_size (meant book.now) state.flags ≤ length room.old) }
-    ensures { Put room.old room.new at (take n (drop i list.now) ++ state_numbers (meant book.now) state.flags (held (meant book.now) state.now)) }
+    requires { (i + n ≤ length list.now) × (at + n + state_size (meant book.now) meanings.flags ≤ length room.old) }
+    ensures { Put room.old room.new at (take n (drop i list.now) ++ state_numbers (meant book.now) meanings.flags (held (meant book.now) state.now)) }
 {
     steps::copy(list, i, n, room, at);
     write_state(book, state, room, at + n);
@@ -122,9 +122,9 @@ fn low_state(book: &Book) -> State
 // the steps in order, each with the state after it, behind the first state
 fn write_steps(table: &Table, list: &[i32], size: usize, room: &mut [i32])
     requires walk { Walk table.now.book.bytes.now table.now.book.header list.now 0 0 }
-    requires sized { Sized (meant table.now.book) state.flags size }
-    requires fits { size + length (trace_due (meant table.now.book) state.flags list.now 0 (first (meant table.now.book) state.flags)) ≤ length room.old }
-    ensures { Put room.old room.new size (trace_due (meant table.now.book) state.flags list.now 0 (first (meant table.now.book) state.flags)) }
+    requires sized { Sized (meant table.now.book) meanings.flags size }
+    requires fits { size + length (trace_due (meant table.now.book) meanings.flags list.now 0 (first (meant table.now.book) meanings.flags)) ≤ length room.old }
+    ensures { Put room.old room.new size (trace_due (meant table.now.book) meanings.flags list.now 0 (first (meant table.now.book) meanings.flags)) }
 {
     let mut state = low_state(&table.book);
     let mut at = size;
@@ -142,9 +142,9 @@ fn write_steps(table: &Table, list: &[i32], size: usize, room: &mut [i32])
 // Writes the trace's numbers to the front of the room.
 pub fn write(table: &Table, list: &[i32], size: usize, room: &mut [i32])
     requires walk { Walk table.now.book.bytes.now table.now.book.header list.now 0 0 }
-    requires sized { Sized (meant table.now.book) state.flags size }
-    requires fits { length (as_trace (meant table.now.book) state.flags list.now) ≤ length room.old }
-    ensures { Put room.old room.new 0 (as_trace (meant table.now.book) state.flags list.now) }
+    requires sized { Sized (meant table.now.book) meanings.flags size }
+    requires fits { length (as_trace (meant table.now.book) meanings.flags list.now) ≤ length room.old }
+    ensures { Put room.old room.new 0 (as_trace (meant table.now.book) meanings.flags list.now) }
 {
     write_state(&table.book, &low_state(&table.book), room, 0);
     write_steps(table, list, size, room);

@@ -1,4 +1,4 @@
--- One clause after the other, and the ways to the whole reply.
+-- One clause after the other.
 use Prim.Native.Nat.{ℕ, suc, ◌+◌, ◌<◌, ◌≤◌}
 use native.Mathlib.Numerals.{add-one}
 use native.Mathlib.Omega.{arith}
@@ -9,45 +9,40 @@ use lib.Seq.{take-suc, drop-cons}
 use Rattle.meaning.specs.Constraint.{Constraint}
 use Rattle.meaning.specs.Book as meant
 use Rattle.meaning.specs.Book.{Book, variable_window, none_such}
-use Rattle.reply.specs.declared.Refusal.{Refusal}
-use Rattle.reply.specs.Answer.{ok, says, Outcome}
 use Rattle.reply.specs.Among.{refused-not}
 use Rattle.cursor.specs.Meaning.{clause_in}
-use Rattle.book.specs.declared.Header.{Header}
-use Rattle.book.specs.Read.{read}
-use Rattle.book.specs.Meaning.{book_in}
+use Rattle.book.specs.Held as held
 use Rattle.book.specs.Joined.{count-is}
-use Rattle.book.specs.Windows.{windows_of}
 use Rattle.models.specs.Assignments.{assignments, count}
 use Rattle.models.specs.Order.{assignments-count}
 use Rattle.models.specs.Walk.{step, tries, tries_from, walk, sum, total, Finding, clean, broken, find, find_then}
 use Rattle.models.proofs.Found.{sum-append, find-clean, find-append}
-use Rattle.models.specs.Answer.{Reply, plain, outcome}
+use Rattle.models.specs.Answer.{Reply, outcome}
+use Rattle.parts.specs.declared.Model.{Model}
 use Rattle.parts.specs.declared.Task.{Task}
-use Rattle.parts.specs.Task.{Taken, Started, Tasked, rules_in}
-use Rattle.parts.proofs.Tasks as tasks
-use Rattle.model.specs.declared.Reply as code
-use Rattle.model.specs.Reply.{told}
+use Rattle.parts.specs.Opened.{constraints}
+use Rattle.parts.proofs.Tasks.{task_held}
+use Rattle.model.specs.declared.Broken.{Broken}
+use Rattle.model.specs.Reply.{said, windows_of, clause_answer, walk_answer}
 use Rattle.std.specs.Prelude.{Ok, Err}
 
--- ---- one stretch after another: y is the answer of the reply r about a stretch
+-- ---- one stretch after another
 
-module _ (r : code.Reply) {y : Outcome} (is : y ≡ r.answer) where
-  module _ (go : ℕ → Finding) where
-    pub stretch-stop : (f : Finding) {g : Refusal} → told r ≡ outcome f → y ≡ Err g → told r ≡ outcome (find_then f go)
-    unfolding outcome find_then says
-    stretch-stop (clean n) e t = absurd (refused-not (sym (ap says t) ∙ ap says is ∙ ap (λ (x : Reply). x.answer) e))
-    stretch-stop (broken n s) e t = e
+module _ (go : ℕ → Finding) where
+  stretch-stop : (f : Finding) (g : Broken) → said (Err g) ≡ outcome f → said (Err g) ≡ outcome (find_then f go)
+  unfolding outcome find_then said
+  stretch-stop (clean n) g e = absurd (refused-not (ap (λ (x : Reply). x.answer) e))
+  stretch-stop (broken n s) g e = e
 
-    pub stretch-more : (f : Finding) {m : ℕ} → told r ≡ outcome f → y ≡ Ok m → outcome (go r.count) ≡ outcome (find_then f go)
-    unfolding outcome find_then says
-    stretch-more (clean n) e t = let z : r.count ≡ n = ap (λ (x : Reply). x.count) e in rw z
-    stretch-more (broken n s) e t = absurd (refused-not (sym (ap (λ (x : Reply). x.answer) e) ∙ ap says (sym is ∙ t)))
+  stretch-more : (f : Finding) (m : ℕ) → said (Ok m) ≡ outcome f → outcome (go m) ≡ outcome (find_then f go)
+  unfolding outcome find_then said
+  stretch-more (clean n) m e = let z : m ≡ n = ap (λ (x : Reply). x.count) e in rw z
+  stretch-more (broken n s) m e = absurd (refused-not (sym (ap (λ (x : Reply). x.answer) e)))
 
-  pub stretch-clean : (f : Finding) {m : ℕ} → told r ≡ outcome f → y ≡ Ok m → f ≡ clean r.count
-  unfolding outcome says
-  stretch-clean (clean n) e t = let z : r.count ≡ n = ap (λ (x : Reply). x.count) e in rw z
-  stretch-clean (broken n s) e t = absurd (refused-not (sym (ap (λ (x : Reply). x.answer) e) ∙ ap says (sym is ∙ t)))
+stretch-clean : (f : Finding) (m : ℕ) → said (Ok m) ≡ outcome f → f ≡ clean m
+unfolding outcome said
+stretch-clean (clean n) m e = let z : m ≡ n = ap (λ (x : Reply). x.count) e in rw z
+stretch-clean (broken n s) m e = absurd (refused-not (sym (ap (λ (x : Reply). x.answer) e)))
 
 -- ---- the clauses
 
@@ -56,12 +51,8 @@ module _ (b : Book) (m : List Constraint) where
   unfoldable pub rest : ℕ → ℕ → Reply
   rest seen k = outcome (find b m seen (tries_from b k (drop k b.clauses)))
 
-  pub rest_all : rest 0 0 ≡ outcome (find b m 0 (walk b))
-  unfolding rest walk
-  rest_all = refl
-
-  pub rest-none : (seen k : ℕ) → length b.clauses ≤ k → rest seen k ≡ plain ok seen
-  unfolding rest tries_from find outcome
+  rest-none : (seen k : ℕ) → length b.clauses ≤ k → said (Ok seen) ≡ rest seen k
+  unfolding rest tries_from find outcome said
   rest-none seen k h = rw (drop_of_length-le b.clauses h)
 
   module _ (seen k : ℕ) (h : k < length b.clauses) where
@@ -75,70 +66,74 @@ module _ (b : Book) (m : List Constraint) where
     unfolding rest tries_from
     split = rw (drop-cons b.clauses k none_such h, add-one k, find-append b m seen (tries b k c) (tries_from b (suc k) (drop (suc k) b.clauses)))
 
-    module _ (r : code.Reply) {y : Outcome} (is : y ≡ r.answer) (e : told r ≡ outcome here) where
-      pub rest-stop : {g : Refusal} → y ≡ Err g → told r ≡ rest seen k
-      rest-stop t = stretch-stop r is _ here e t ∙ sym split
+    rest-stop : (g : Broken) → said (Err g) ≡ outcome here → said (Err g) ≡ rest seen k
+    rest-stop g e = stretch-stop _ here g e ∙ sym split
 
-      pub rest_more : {n : ℕ} → y ≡ Ok n → rest r.count (k + 1) ≡ rest seen k
-      unfolding rest
-      rest_more t = stretch-more r is _ here e t ∙ sym split
+    rest-more : (n : ℕ) → said (Ok n) ≡ outcome here → rest n (k + 1) ≡ rest seen k
+    unfolding rest
+    rest-more n e = stretch-more _ here n e ∙ sym split
 
-      pub seen_more : {n : ℕ} → y ≡ Ok n → seen ≡ sum b (take k b.clauses) → r.count ≡ sum b (take (k + 1) b.clauses)
-      unfolding sum
-      seen_more t q =
-          let x = (find-clean b m seen (tries b k c) r.count (stretch-clean r is here e t)).0 in
-          let w = variable_window b c in
-          rw (add-one k, take-suc b.clauses k none_such h)
-          (omega (arith, x, q, sum-append b (take k b.clauses) (c ∷ []), length-map (assignments w c.vars) (step k), assignments-count w c.vars))
+    seen-more : (n : ℕ) → said (Ok n) ≡ outcome here → seen ≡ sum b (take k b.clauses) → n ≡ sum b (take (k + 1) b.clauses)
+    unfolding sum
+    seen-more n e q =
+        let x = (find-clean b m seen (tries b k c) n (stretch-clean here n e)).0 in
+        let w = variable_window b c in
+        rw (add-one k, take-suc b.clauses k none_such h)
+        (omega (arith, x, q, sum-append b (take k b.clauses) (c ∷ []), length-map (assignments w c.vars) (step k), assignments-count w c.vars))
 
   -- a part is no more than all
-  pub seen-small : (k : ℕ) → sum b (take k b.clauses) ≤ total b
+  seen-small : (k : ℕ) → sum b (take k b.clauses) ≤ total b
   unfolding total
   seen-small k = omega (arith, rw (take-append-drop k b.clauses) at (sum-append b (take k b.clauses) (drop k b.clauses)))
 
-  pub clause-small : (k : ℕ) → k < length b.clauses → count (variable_window b (get_or b.clauses k none_such)) (get_or b.clauses k none_such).vars ≤ total b
+  clause-small : (k : ℕ) → k < length b.clauses → count (variable_window b (get_or b.clauses k none_such)) (get_or b.clauses k none_such).vars ≤ total b
   unfolding total sum
   clause-small k h =
       let x = rw (take-append-drop k b.clauses) at (sum-append b (take k b.clauses) (drop k b.clauses)) in
       omega (arith, x, ap (sum b) (drop-cons b.clauses k none_such h))
 
--- ---- what trying a clause asks
+-- a task's clause has no more assignments than there are
+pub task_small : (t : Task) → total (held.meant t.model.book) ≤ 1000000 → count (windows_of t) t.clause.variables ≤ 1000000
+unfolding clause_in
+task_small t few =
+    let k = t.model.book in
+    let b = held.meant k in
+    let x = clause-small b [] t.number (omega (arith, count-is k.bytes.now k.header k.accepted, t.taken.below)) in
+    let vars : (get_or b.clauses t.number none_such).vars ≡ t.clause.variables = ap (λ (y : meant.Clause). y.vars) (task_held t).is in
+    let y = rw vars at x in omega (arith, y)
 
-module _ (s : List ℕ) (h : Header) (t l : List ℕ) (k : ℕ) (task : Task) (good : read s ≡ Ok h) where
-  pub asked-task : Started t (book_in s h).arities l → Taken s h k l task → Tasked s h t k task
-  asked-task st w = tasks.tasked s h good t l st k task w
-
-  pub asked-count : k < h.count → Taken s h k l task → total (book_in s h) ≤ 1000000 → count (windows_of s h k) task.clause.variables ≤ 1000000
-  unfolding clause_in
-  asked-count b w few =
-      let x = clause-small (book_in s h) [] k (omega (arith, count-is s h good)) in
-      let vars : (get_or (book_in s h).clauses k none_such).vars ≡ task.clause.variables = ap (λ (y : meant.Clause). y.vars) w.held.is in
-      let y = rw vars at x in omega (arith, y)
-
--- the same of an accepted book, where the code's tests are of the header's count
-module _ (s : List ℕ) (h : Header) (t : List ℕ) (good : read s ≡ Ok h) where
+-- the same of a model that was read, where the code's tests are of the header's count
+module _ (m : Model) where
   abbrev b : Book
-  b = book_in s h
+  b = held.meant m.book
 
-  abbrev m : List Constraint
-  m = rules_in t (book_in s h).arities
+  -- what is due from clause k on, and how many were examined before it
+  pub record Due (seen k : ℕ) : Type 0 where
+    pub before : seen ≡ sum b (take k b.clauses)
+    pub left : rest b (constraints m) seen k ≡ walk_answer m
 
-  there : (k : ℕ) → k < h.count → k < length b.clauses
-  there k l = omega (arith, count-is s h good)
+  abbrev pub long : length b.clauses ≡ m.book.header.count
+  long = count-is m.book.bytes.now m.book.header m.book.accepted
 
-  module _ (seen k : ℕ) (r : code.Reply) {y : Outcome} (is : y ≡ r.answer) (e : told r ≡ outcome (find b m seen (tries b k (get_or b.clauses k none_such)))) where
-    pub all-stop : {g : Refusal} → k < h.count → y ≡ Err g → told r ≡ rest b m seen k
-    all-stop l q = rest-stop b m seen k (there k l) r is e q
+  pub due-none : Due 0 0
+  unfolding sum rest walk
+  due-none = record { before = refl; left = refl }
 
-    pub all_more : {n : ℕ} → k < h.count → y ≡ Ok n → rest b m r.count (k + 1) ≡ rest b m seen k
-    all_more l q = rest_more b m seen k (there k l) r is e q
+  pub due-small : (seen k : ℕ) → Due seen k → total b ≤ 1000000 → seen ≤ 1000000
+  due-small seen k d l = omega (arith, d.before, seen-small b (constraints m) k)
 
-    pub all_seen : {n : ℕ} → k < h.count → y ≡ Ok n → seen ≡ sum b (take k b.clauses) → r.count ≡ sum b (take (k + 1) b.clauses)
-    all_seen l q z = seen_more b m seen k (there k l) r is e q z
+  module _ (seen k : ℕ) (h : k < m.book.header.count) (d : Due seen k) where
+    there : k < length b.clauses
+    there = omega (arith, long)
 
-  pub all_none : (seen k : ℕ) {x : Reply} → h.count ≤ k → x ≡ plain (says (Ok 0)) seen → x ≡ rest b m seen k
-  unfolding says
-  all_none seen k l q = q ∙ sym (rest-none b m seen k (omega (arith, count-is s h good)))
+    pub due-stop : (g : Broken) → said (Err g) ≡ clause_answer m k seen → said (Err g) ≡ walk_answer m
+    due-stop g e = rest-stop b (constraints m) seen k there g e ∙ d.left
 
-  pub all_small : (seen k : ℕ) → seen ≡ sum b (take k b.clauses) → total b ≤ 1000000 → seen ≤ 1000000
-  all_small seen k e l = omega (arith, seen-small b m k)
+    pub due-more : (n : ℕ) → said (Ok n) ≡ clause_answer m k seen → Due n (k + 1)
+    due-more n e = record {
+      before = seen-more b (constraints m) seen k there n e d.before;
+      left = rest-more b (constraints m) seen k there n e ∙ d.left;
+    }
+
+  pub due-all : (seen k : ℕ) → m.book.header.count ≤ k → Due seen k → said (Ok seen) ≡ walk_answer m
+  due-all seen k h d = rest-none b (constraints m) seen k (omega (arith, long)) ∙ d.left

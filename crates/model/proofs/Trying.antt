@@ -8,23 +8,22 @@ use mathlib.Core.List.{List, ◌∷◌, map}
 use lib.ListN.{length, get_or, take, drop, replicate, take-append-drop}
 use lib.Seq.{length-take-le}
 use lib.IntN.{ℤ, pos}
-use Rattle.reply.specs.Answer.{ok, refuse, says, Outcome}
 use Rattle.meaning.specs.Constraint.{Constraint}
 use Rattle.meaning.specs.Book as meant
 use Rattle.meaning.specs.Book.{Book, Window, none_such}
 use Rattle.cursor.specs.Steps.{pick}
 use Rattle.cursor.specs.Meaning.{clause_in}
-use Rattle.book.specs.declared.Header.{Header}
-use Rattle.book.specs.Read.{read}
-use Rattle.book.specs.Meaning.{book_in}
-use Rattle.book.specs.Windows.{windows_of, window-some}
+use Rattle.book.specs.Held as held
+use Rattle.book.specs.Windows.{window-some}
 use Rattle.models.specs.Assignments.{assignments, count}
 use Rattle.models.specs.Odometer.{up, run, lows, up-length, up-drop, lows-length, lows-drop, walked}
 use Rattle.models.specs.Cap.{cap, cap-small}
-use Rattle.models.specs.Walk.{step, tries, breaks, find}
-use Rattle.models.specs.Answer.{Reply, plain, slots, outcome}
+use Rattle.models.specs.Walk.{step, breaks, find}
+use Rattle.models.specs.Answer.{Reply, slots, outcome}
 use Rattle.parts.specs.declared.Task.{Task}
-use Rattle.parts.specs.Task.{breaks_in, Ready, Tasked, rules_in}
+use Rattle.parts.specs.Opened.{constraints}
+use Rattle.parts.proofs.Tasks.{task_held, task_few}
+use Rattle.model.specs.Reply.{said, windows_of, clause_answer}
 use Rattle.std.specs.Prelude.{Err, Ok}
 
 -- sixteen values, those from n on 0
@@ -32,7 +31,7 @@ pub record Padded (n : ℕ) (vs : List ℤ) : Type 0 where
   pub size : length vs ≡ 16
   pub rest : drop n vs ≡ replicate (16 - n) (pos 0)
 
-pub padded-slots : (n : ℕ) (vs : List ℤ) → n ≤ 16 → Padded n vs → slots (take n vs) ≡ vs
+padded-slots : (n : ℕ) (vs : List ℤ) → n ≤ 16 → Padded n vs → slots (take n vs) ≡ vs
 padded-slots n vs h p =
     let e : length (take n vs) ≡ n = length-take-le n vs (omega (arith, p.size)) in
     rw (e, ← p.rest) (take-append-drop n vs)
@@ -55,60 +54,51 @@ module _ (w : ℕ → Window) (n : ℕ) where
     rest = up-drop w n vs n (omega arith) ∙ p.rest;
   })
 
--- ---- what the calls ask
+-- ---- what is due: `left` assignments of the task's clause from vs on, where `seen` were examined before them
 
-pub ready_at : (s : List ℕ) (h : Header) (t : List ℕ) (k : ℕ) (task : Task) (vs : List ℤ) → Tasked s h t k task → length vs ≡ 16 → Ready s (length vs) t task
-ready_at s h t k task vs w e = rw e w.ready
+module _ (t : Task) where
+  abbrev b : Book
+  b = held.meant t.model.book
 
--- ---- what is due: `left` assignments of clause k from vs on, where `seen` were examined before them
+  abbrev m : List Constraint
+  m = constraints t.model
 
-module _ (s : List ℕ) (h : Header) (t : List ℕ) (k : ℕ) where
-  abbrev pub b : Book
-  b = book_in s h
+  abbrev w : ℕ → Window
+  w = windows_of t
 
-  abbrev pub m : List Constraint
-  m = rules_in t (book_in s h).arities
+  abbrev n : ℕ
+  n = t.clause.variables
 
-  unfoldable pub due : ℕ → ℕ → List ℤ → ℕ → Reply
-  due n left vs seen = outcome (find b m seen (map (step k) (run (windows_of s h k) n left vs)))
+  unfoldable pub due : ℕ → List ℤ → ℕ → Reply
+  due left vs seen = outcome (find b m seen (map (step t.number) (run w n left vs)))
 
   -- all of the clause is due at first
-  pub due-first : (task : Task) (before : ℕ) {left n : ℕ} {vs : List ℤ} → read s ≡ Ok h → Tasked s h t k task → n ≡ task.clause.variables →
-      count (windows_of s h k) task.clause.variables ≤ 1000000 → left ≡ cap (count (windows_of s h k) task.clause.variables) → vs ≡ lows (windows_of s h k) n (replicate 16 (pos 0)) →
-      due n left vs before ≡ outcome (find b m before (tries b k (get_or b.clauses k none_such)))
+  pub due-first : (before : ℕ) {left : ℕ} {vs : List ℤ} → count w n ≤ 1000000 → left ≡ cap (count w n) → vs ≡ lows w n (replicate 16 (pos 0)) →
+      due left vs before ≡ clause_answer t.model t.number before
   unfolding due clause_in
-  due-first task before {left} {n} {vs} good w e few l v =
-      let z : task.clause.variables < 17 = w.held.sound.few in
-      let a : assignments (windows_of s h k) n ≡ run (windows_of s h k) n (count (windows_of s h k) n) vs =
-      rw v (walked (windows_of s h k) n (replicate 16 (pos 0)) (omega arith) (λ i q. window-some s h k i good)) in
-      let o : left ≡ count (windows_of s h k) n = rw e (l ∙ cap-small _ few) in
-      let vars : (get_or b.clauses k none_such).vars ≡ n = ap (λ (x : meant.Clause). x.vars) w.held.is ∙ sym e in
+  due-first before {left} {vs} few l v =
+      let k = t.model.book in
+      let a : assignments w n ≡ run w n (count w n) vs = rw v (walked w n (replicate 16 (pos 0)) (task_few t) (λ i q. window-some k.bytes.now k.header t.number i k.accepted)) in
+      let o : left ≡ count w n = l ∙ cap-small _ few in
+      let vars : (get_or b.clauses t.number none_such).vars ≡ n = ap (λ (x : meant.Clause). x.vars) (task_held t).is in
       rw (vars, a, o)
 
-  module _ (task : Task) (left : ℕ) (vs : List ℤ) (seen : ℕ) {n : ℕ} {r : Bool} (w : Tasked s h t k task) (e : n ≡ task.clause.variables)
-      (some : 0 < left) (p : Padded n vs) (q : r ≡ breaks_in s t task vs) where
-    test : r ≡ breaks b m (step k (take n vs))
-    test =
-        let z : task.clause.variables < 17 = w.held.sound.few in
-        q ∙ rw e (w.means vs (omega (arith, p.size)))
-
-    split : (n left : ℕ) (vs : List ℤ) → 0 < left → run (windows_of s h k) n left vs ≡ take n vs ∷ run (windows_of s h k) n (left - 1) (up (windows_of s h k) n vs)
+  module _ (left : ℕ) (vs : List ℤ) (seen : ℕ) {r : Bool} (some : 0 < left) (q : r ≡ breaks b m (step t.number (take n vs))) where
+    split : (n left : ℕ) (vs : List ℤ) → 0 < left → run w n left vs ≡ take n vs ∷ run w n (left - 1) (up w n vs)
     unfolding run
     split n zero vs l = absurd (let z : ⊥ = omega arith in z)
     split n (suc k) vs l = rw sub-one
 
     -- this one is broken
-    pub due-broken : {a : Outcome} → r ≡ true → a ≡ Err (refuse 25 (seen + 1)) → record { answer = says a; count = seen + 1; clause = k; values = vs } ≡ due n left vs seen
-    unfolding due find pick outcome says
-    due-broken y o =
-        let z : task.clause.variables < 17 = w.held.sound.few in
-        rw (o, split n left vs some, sym test ∙ y, padded-slots n vs (omega arith) p)
+    pub due-broken : Padded n vs → r ≡ true → said (Err (record { count = seen + 1; clause = t.number; values = vs })) ≡ due left vs seen
+    unfolding due find pick outcome said
+    due-broken p y = rw (split n left vs some, sym q ∙ y, padded-slots n vs (task_few t) p)
 
     -- this one is not
-    pub due-next : {us : List ℤ} → r ≡ false → us ≡ up (windows_of s h k) n vs → due n (left - 1) us (seen + 1) ≡ due n left vs seen
+    pub due-next : {us : List ℤ} → r ≡ false → us ≡ up w n vs → due (left - 1) us (seen + 1) ≡ due left vs seen
     unfolding due find pick
-    due-next y u = rw (split n left vs some, sym test ∙ y, u)
+    due-next y u = rw (split n left vs some, sym q ∙ y, u)
 
-  pub due-none : (n left : ℕ) (vs : List ℤ) (seen : ℕ) → left ≤ 0 → due n left vs seen ≡ plain ok seen
-  unfolding due run find outcome
-  due-none n left vs seen l = let z : left ≡ 0 = omega arith in rw z
+  pub due-none : (left : ℕ) (vs : List ℤ) (seen : ℕ) → left ≤ 0 → said (Ok seen) ≡ due left vs seen
+  unfolding due run find outcome said
+  due-none left vs seen l = let z : left ≡ 0 = omega arith in rw z

@@ -1,7 +1,7 @@
 -- The ways to the whole reply: the book, the model, the query's constraint, the number of assignments.
 use Prim.Native.Nat.{ℕ, ◌<◌, ◌≤◌}
 use native.Mathlib.Omega.{arith}
-use mathlib.Core.Path.{◌≡◌, refl, sym, ap, ◌∙◌}
+use mathlib.Core.Path.{◌≡◌, refl, sym, ap, ap₂, ◌∙◌}
 use mathlib.Core.Logic.{⊎_elim}
 use mathlib.Core.Bool.{Bool, true, false}
 use mathlib.Core.List.{List, []}
@@ -10,31 +10,33 @@ use borrow.Author.Tests.{lt-ltb, le-ltb}
 use Rattle.whole.specs.Whole.{lt-or-le}
 use Rattle.meaning.specs.Constraint.{holds}
 use Rattle.meaning.specs.Book.{Book}
-use Rattle.cursor.specs.declared.Cursor.{Cursor}
 use Rattle.reply.specs.declared.Refusal.{Refusal}
 use Rattle.reply.specs.Answer.{refused, refuse, says, Outcome}
 use Rattle.cursor.specs.Steps.{pick, Read}
-
 use Rattle.cursor.specs.Meaning.{tree_in}
 use Rattle.cursor.specs.Sound.{IsTree}
 use Rattle.book.specs.declared.Header.{Header}
-use Rattle.book.specs.Read.{read, Reading}
+use Rattle.book.specs.declared.held.Book as held
+use Rattle.book.specs.Held.{meant}
+use Rattle.book.specs.Read.{read}
 use Rattle.book.specs.Arities.{arity-query}
 use Rattle.book.specs.Meaning.{book_in}
-use Rattle.book.specs.Answer.{Answers}
-use Rattle.book.specs.OnBook.{refused_by, by-refused, by-good, refused-own}
+use Rattle.book.specs.Answer.{answers}
+use Rattle.book.specs.OnBook.{by-refused, by-good}
 use Rattle.book.specs.Trailer.{read-trailed}
 use Rattle.models.specs.Read.{Part, rules, model_in, rules_of}
 use Rattle.models.specs.Cap.{cap, cap-small, cap-large}
-use Rattle.models.specs.Walk.{walk, total, find}
-use Rattle.models.specs.Answer.{Reply, plain, no_part, outcome, weighed, judged, examine, model_answer}
+use Rattle.models.specs.Walk.{total}
+use Rattle.models.specs.Answer.{Reply, plain, no_part, weighed, judged, examine, model_answer}
 use Rattle.models.specs.Passed.{IsPart, pass-moved, pass-refused}
-use Rattle.parts.specs.declared.Scan.{Scan}
-use Rattle.parts.specs.Task.{Scanned, Started, rules_in}
-use Rattle.parts.proofs.Tasks as tasks
+use Rattle.parts.specs.declared.Model.{Model}
+use Rattle.parts.specs.Task.{scan, scan-refused}
+use Rattle.parts.proofs.Tasks.{started, read-parts, part_of}
 use Rattle.model.specs.declared.Reply as code
-use Rattle.model.specs.Reply.{told, parts_of, parts_in, Replies}
-use Rattle.std.specs.Prelude.{Err, Ok}
+use Rattle.model.specs.declared.Broken.{Broken}
+use Rattle.model.specs.Reply.{told, said, parts_of, parts_in, walk_answer, weighed_answer, Given, Replies}
+use Rattle.parts.specs.Opened.{Opened}
+use Rattle.std.specs.Prelude.{Result, Err, Ok}
 
 rules-parts : (y : Read (List Part)) → rules_of y ≡ rules (parts_of y)
 unfolding rules_of parts_of
@@ -48,73 +50,90 @@ few-of n e l = ⊎_elim (λ h. absurd (let z : ⊥ = omega (arith, cap-large n h
 many-of : (n : ℕ) {m : ℕ} → m ≡ cap n → 1000000 < m → 1000000 < n
 many-of n e l = ⊎_elim (λ h. h) (λ h. absurd (let z : ⊥ = omega (arith, cap-small n h) in z)) (lt-or-le 1000000 n)
 
-pub query-small : (s : List ℕ) (h : Header) {q : ℕ} → read s ≡ Ok h → q ≡ h.query → q < 16
-query-small s h good e = let k = (read-trailed s h good).kept in omega arith
-
-module _ (s : List ℕ) (h : Header) (t l : List ℕ) {q : ℕ} (good : read s ≡ Ok h) (st : Started t (book_in s h).arities l) (e : q ≡ h.query) where
+module _ (m : Model) where
   abbrev b : Book
-  b = book_in s h
+  b = meant m.book
 
   abbrev ps : List Part
-  ps = parts_in t (book_in s h).arities
+  ps = parts_in m.bytes.now b.arities
 
-  -- the query's constraint, over Err variables
-  query-part : IsPart t 0 (get_or l q 0) (get_or ps b.query no_part)
+  -- where the query's constraint starts
+  abbrev at : ℕ
+  at = get_or m.starts m.book.header.query 0
+
+  pub query-small : m.book.header.query < 16
+  query-small = let k = (read-trailed _ _ m.book.accepted).kept in omega arith
+
+  -- the query's constraint, over no variables
+  query-part : IsPart m.bytes.now 0 at (get_or ps b.query no_part)
   unfolding book_in parts_of
   query-part =
-      let w = tasks.read-parts s h good t l st in
+      let good = m.book.accepted in
+      let s = m.book.bytes.now in
+      let h = m.book.header in
+      let w = read-parts s h good m.bytes.now m.starts (started m) in
       let k = (read-trailed s h good).kept in
-      rw (e, w.1) (rw (arity-query s h good) at (tasks.part_of s h good t l st h.query k.query))
+      rw w.1 (rw (arity-query s h good) at (part_of s h good m.bytes.now m.starts (started m) h.query k.query))
 
-  pub query-tree : IsTree t 0 (get_or l q 0)
+  pub query-tree : IsTree m.bytes.now 0 at
   query-tree = rw query-part.start query-part.tree
 
-  module _ {r : Bool} (p : r ≡ holds [] (tree_in t 0 (get_or l q 0))) where
+  module _ {r : Bool} (p : r ≡ holds [] (tree_in m.bytes.now 0 at)) where
     test : r ≡ holds [] (get_or ps b.query no_part).rule
     test = p ∙ ap (holds []) (rw query-part.start (sym query-part.is))
 
-    pub weigh-true : {x : Reply} {a : Outcome} → r ≡ true → a ≡ Err (refuse 23 (get_or l q 0)) → x ≡ plain (says a) 0 → x ≡ weighed b ps
+    pub weigh-true : {x : Reply} {a : Outcome} → r ≡ true → a ≡ Err (refuse 23 at) → x ≡ plain (says a) 0 → x ≡ weighed_answer m
     unfolding weighed pick says
     weigh-true y o z = z ∙ rw (o, sym test ∙ y, query-part.start)
 
     module _ {n : ℕ} (c : n ≡ cap (total b)) (y : r ≡ false) where
-      pub weigh-many : {x : Reply} {a : Outcome} → 1000000 < n → a ≡ Err (refuse 24 0) → x ≡ plain (says a) 0 → x ≡ weighed b ps
+      pub weigh-many : {x : Reply} {a : Outcome} → 1000000 < n → a ≡ Err (refuse 24 0) → x ≡ plain (says a) 0 → x ≡ weighed_answer m
       unfolding weighed pick says
       weigh-many k o z = z ∙ rw (o, sym test ∙ y, lt-ltb 1000000 (total b) (many-of (total b) c k))
 
-      pub weigh-rest : {x : Reply} → n ≤ 1000000 → x ≡ outcome (find b (rules_in t b.arities) 0 (walk b)) → x ≡ weighed b ps
+      weigh-rest : {x : Reply} → n ≤ 1000000 → x ≡ walk_answer m → x ≡ weighed_answer m
       unfolding weighed pick
-      weigh-rest k z = z ∙ rw (sym test ∙ y, le-ltb 1000000 (total b) (few-of (total b) c k), rules-parts (model_in t b.arities))
+      weigh-rest k z = z ∙ rw (sym test ∙ y, le-ltb 1000000 (total b) (few-of (total b) c k), rules-parts (model_in m.bytes.now b.arities))
 
-pub ruleset weighing = (weigh-true, weigh-many, weigh-rest)
+      module _ (k : n ≤ 1000000) where
+        pub weigh-clean : (i : ℕ) {x : Reply} → said (Ok i) ≡ walk_answer m → x ≡ plain (says (Ok 0)) i → x ≡ weighed_answer m
+        unfolding said says
+        weigh-clean i w z = weigh-rest k (z ∙ w)
 
--- ---- the whole reply; y is what reading the book answered
+        pub weigh-broken : (g : Broken) {a : Outcome} → said (Err g) ≡ walk_answer m → a ≡ Err (refuse 25 g.count) →
+            record { answer = says a; count = g.count; clause = g.clause; values = g.values } ≡ weighed_answer m
+        unfolding said says
+        weigh-broken g w o = weigh-rest k (rw o w)
 
-module _ (s t : List ℕ) (y : Reading) (a : Answers s y) where
-  pub reply-refused : (r : code.Reply) {f : Refusal} {x : Outcome} → y ≡ Err f → x ≡ refused_by y → told r ≡ plain (says x) 0 → Replies s t r
-  unfolding model_answer says
-  reply-refused r e o q = record { tells = q ∙ ap (λ (z : Outcome). plain (says z) 0) (refused-own o e) ∙ sym (by-refused s (λ n p. plain (refused n p) 0) (λ b. examine b t) a e) }
+  -- ---- the whole reply
 
-  module _ (h : Header) (e : y ≡ Ok h) where
-    pub good-read : read s ≡ Ok h
-    good-read = sym a.is ∙ e
+  reply-read : model_answer m.book.bytes.now m.bytes.now ≡ weighed_answer m
+  unfolding model_answer examine judged book_in parts_of
+  reply-read =
+      let s = m.book.bytes.now in
+      let w = pass-moved m.bytes.now b.arities (started m).passed in
+      by-good s (λ n p. plain (refused n p) 0) (λ b. examine b m.bytes.now) (answers s _ (sym m.book.accepted)) refl ∙ rw w.1
 
-    answered : model_answer s t ≡ examine (book_in s h) t
-    unfolding model_answer
-    answered = by-good s (λ n p. plain (refused n p) 0) (λ b. examine b t) a e
+  pub reply-weighed : {s t : List ℕ} (r : code.Reply) → Given s t (Ok m) → told r ≡ weighed_answer m → Replies s t r
+  reply-weighed r w q = record { tells = q ∙ sym reply-read ∙ ap₂ model_answer w.0 w.1 }
 
-    module _ (x : Scan) (w : Scanned t (book_in s h).arities x) where
-      pub started : {d : Cursor} → x.end ≡ Ok d → Started t (book_in s h).arities x.starts
-      started {d} p = record { starts = w.starts; end = d; passed = sym w.end ∙ p }
+module _ (s t : List ℕ) where
+  -- a refused book
+  pub given-book : (f : Refusal) → read s ≡ Err f → Given s t (Err f)
+  unfolding model_answer
+  given-book f e = by-refused s (λ n p. plain (refused n p) 0) (λ b. examine b t) (answers s _ (sym e)) refl
 
-      pub reply-model : (r : code.Reply) {f : Refusal} → x.end ≡ Err f → told r ≡ plain (says (Err f)) 0 → Replies s t r
-      unfolding examine judged book_in says
-      reply-model r p q = record { tells = q ∙ sym (answered ∙ rw (pass-refused t (book_in s h).arities (sym w.end ∙ p))) }
+  -- a refused model
+  refused-model : (h : Header) (f : Refusal) → read s ≡ Ok h → scan t (book_in s h).arities ≡ Err f → Given s t (Err f)
+  unfolding model_answer examine judged book_in
+  refused-model h f good e =
+      by-good s (λ n p. plain (refused n p) 0) (λ b. examine b t) (answers s _ (sym good)) refl
+      ∙ rw (pass-refused t (book_in s h).arities (scan-refused _ _ e))
 
-      pub reply-weighed : (r : code.Reply) {d : Cursor} → x.end ≡ Ok d → told r ≡ weighed (book_in s h) (parts_in t (book_in s h).arities) → Replies s t r
-      unfolding examine judged book_in parts_of
-      reply-weighed r p q =
-          let (ps, k) = pass-moved t (book_in s h).arities (sym w.end ∙ p) in
-          record { tells = q ∙ sym (answered ∙ rw k) }
+  pub given-model : (b : held.Book) (x : Result Model Refusal) → b.bytes.now ≡ s → Opened b t x → Given s t x
+  given-model b (Ok m) e w = (ap (λ (b : held.Book). b.bytes.now) w.0 ∙ e, w.1)
+  given-model b (Err f) e w = refused-model b.header f (rw e at b.accepted) (rw e at w)
 
-pub ruleset replies = (reply-refused, good-read, started, reply-model, reply-weighed)
+  pub reply-refused : (r : code.Reply) (f : Refusal) → Given s t (Err f) → told r ≡ plain (says (Err f)) 0 → Replies s t r
+  unfolding says
+  reply-refused r f w q = record { tells = q ∙ sym w }

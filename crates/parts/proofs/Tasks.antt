@@ -171,7 +171,7 @@ started m = scan-started _ _ _ m.read
 
 module _ (k : Task) where
   abbrev m : Model
-  m = k.model.now
+  m = k.model
 
   abbrev v : ℕ
   v = k.clause.variables

@@ -1,11 +1,12 @@
 -- A model that was read, and one clause with the model's constraints of its body and head, by where they stand: what the code asks of them, and what they mean.
-use Rattle.std.specs.Prelude.{ℕ, ◌+◌, ◌<◌, ◌≤◌, ◌≡◌, Bool, true, false, not, List, map, get_or, take, drop, replicate, eqb, ℤ, pos, Result, Ok, Option, Some, None}
+use Rattle.std.specs.Prelude.{ℕ, ◌+◌, ◌<◌, ◌≤◌, ◌≡◌, Bool, true, false, not, List, map, get_or, take, drop, replicate, eqb, ℤ, pos, Result, Ok, Err, Option, Some, None}
+use Rattle.std.proofs.Common.{refl, sym, ap, ◌∙◌}
 use Rattle.meaning.specs.Constraint.{Constraint, holds}
 use Rattle.reply.specs.declared.Refusal.{Refusal}
-use Rattle.reply.specs.Then.{◌>>=◌, went, no_err}
+use Rattle.reply.specs.Then.{go_on, ◌>>=◌, went, no_err}
 use Rattle.cursor.specs.declared.Cursor.{Cursor}
 use Rattle.cursor.specs.declared.Clause.{Clause}
-use Rattle.cursor.specs.Steps.{pick}
+use Rattle.cursor.specs.Steps.{pick, Step}
 use Rattle.cursor.specs.Meaning.{tree_in}
 use Rattle.cursor.specs.Sound.{Arguments, IsTree}
 use Rattle.book.specs.declared.Header.{Header}
@@ -36,6 +37,14 @@ scan s ns = scan_at s ns 0 first (replicate 16 0)
 pub scan-started : (s ns l : List ℕ) → scan s ns ≡ Ok l → Started s ns l
 unfolding scan_at
 scan-started s ns l e = went (pass_at s ns first) _ _ no_err e (λ d p q. record { starts = let z : l ≡ starts_at s ns 0 first (replicate 16 0) = cc in z; end = d; passed = p })
+
+pub scan-refused : (s ns : List ℕ) {r : Refusal} → scan s ns ≡ Err r → pass_at s ns first ≡ Err r
+unfolding scan_at go_on
+scan-refused s ns {r} e = go (pass_at s ns first) refl e
+  where
+    go : (y : Step) → pass_at s ns first ≡ y → go_on y (λ _. Ok (starts_at s ns 0 first (replicate 16 0))) Err ≡ Err r → pass_at s ns first ≡ Err r
+    go (Ok d) p q = absurd (no_err r (sym q))
+    go (Err f) p q = p ∙ (let z : f ≡ r = cc in ap Err z)
 
 -- the constraints that a model's bytes hold
 abbrev pub rules_in : List ℕ → List ℕ → List Constraint

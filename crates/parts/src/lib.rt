@@ -31,12 +31,12 @@ pub struct Model<'a> {
 // A clause of a model's book, and its body and head in the model.
 #[derive(Clone, Copy)]
 pub struct Task<'a> {
-    pub model: &'a Model<'a>,
+    pub model: Model<'a>,
     pub number: usize,
     pub clause: Clause,
     pub body: Option<Half>,
     pub head: Half,
-    pub ghost taken: { Taken model.now.book.bytes.now model.now.book.header model.now.starts number clause body head },
+    pub ghost taken: { Taken model.book.bytes.now model.book.header model.starts number clause body head },
 }
 
 // ---- reading the model
@@ -134,13 +134,13 @@ impl<'a> Model<'a> {
     }
 
     // Clause k of the book, in the model.
-    pub fn task(&'a self, k: usize) -> Task<'a>
+    pub fn task(&self, k: usize) -> Task<'a>
         requires { k < self.now.book.header.count }
-        ensures { (result.model.now ≡ self.now) × (result.number ≡ k) }
+        ensures { (result.model ≡ self.now) × (result.number ≡ k) }
     {
         let clause = self.book.record(k);
         Task {
-            model: self,
+            model: *self,
             number: k,
             clause,
             body: self.body(clause.body, clause.body_at),
@@ -181,9 +181,9 @@ impl<'a> Task<'a> {
     // Whether the assignment breaks the model: the clause's constraint is true, its body is met, and its head's is not true.
     pub fn breaks(&self, values: &[i32]) -> bool
         requires { self.now.clause.variables ≤ length values.now }
-        ensures { result ≡ breaks (meant self.now.model.now.book) (constraints self.now.model.now) (step self.now.number (take self.now.clause.variables values.now)) }
+        ensures { result ≡ breaks (meant self.now.model.book) (constraints self.now.model) (step self.now.number (take self.now.clause.variables values.now)) }
     {
-        let m = self.model;
+        let m = &self.model;
         truth::truth(
             m.book.bytes,
             self.clause.rule,

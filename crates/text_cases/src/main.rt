@@ -37,10 +37,7 @@ fn print_case<W: Write>(out: &mut W, book: &[u8], room: &mut [u8]) -> io::Result
     fill(room);
     let answer = text::print(book, room);
     console::print_answer(out, answer)?;
-    match answer {
-        reply::Answer::Done(n) => print_room(out, room, n),
-        reply::Answer::Refused(_) => print_room(out, room, 0),
-    }
+    print_room(out, room, answer.unwrap_or(0))
 }
 
 // Reads the next case and prints its line; false where there is no whole case left.

@@ -4,14 +4,13 @@ use native.Mathlib.Omega.{arith}
 use mathlib.Core.Path.{◌≡◌, sym, ap, ◌∙◌}
 use mathlib.Core.Bool.{false}
 use mathlib.Core.List.{List, map}
-use lib.ListN.{length, get_or, take, drop, replicate, length-drop}
-use lib.Dec.{leb, leb→le, ltb→lt, eqb→eq}
+use lib.ListN.{length, take, drop, replicate, length-drop}
+use lib.Dec.{leb, leb→le}
 use lib.IntN.{ℤ}
 use borrow.Author.Tests.{le-leb, lt-leb}
 use Rattle.meaning.specs.Book.{Fact, place_window}
 use Rattle.meaning.specs.State.{bit, flags}
 use Rattle.lists.specs.Compare.{eq_vals, first_diff}
-use Rattle.lists.specs.Derivation.{judge_goal}
 use Rattle.lists.specs.Trace.{sum, cut, all_rows, first_out_rows, width, size, first_of, judge_first, check_walk}
 use Rattle.lists.specs.Due.{walk_due, walk-due-all}
 use Rattle.reply.specs.Among.{need-ok, told-done}
@@ -92,21 +91,3 @@ module _ (s : List ℕ) (h : Header) (f : Fact) (l : List ℤ) {x y : Outcome} (
 
   pub whole-on : {more k : ℕ} → Sized (book_in s h) flags more → y ≡ Ok k → x ≡ told (walk_due (book_in s h) flags f l more (first_of (book_in s h) flags l)) → x ≡ told (check_walk (book_in s h) flags f l)
   whole-on z q e = rw (walk-due-all (book_in s h) flags f l) (then-on _ _ p q (rw z.is at e))
-
-pub ruleset wholes = (whole-stop, whole-on)
-
--- ---- the goal that was judged
-
-module _ (s : List ℕ) (h : Header) (r : ℕ) (vs : List ℤ) {y : Outcome} {k : ℕ} (good : read s ≡ Ok h) (p : y ≡ told (judge_goal (book_in s h) r vs)) (q : y ≡ Ok k) where
-  pub goal-below : r < h.relations
-  unfolding judge_goal
-  goal-below =
-      let (t, e) = (need-ok _ _ _ _).0 (told-done _ (sym p ∙ q)) in
-      omega (arith, ltb→lt r (length (book_in s h).arities) t, relations-are s h good)
-
-  pub goal-full : length vs ≡ get_or (book_in s h).arities r 0
-  unfolding judge_goal
-  goal-full =
-      let (t, e) = (need-ok _ _ _ _).0 (told-done _ (sym p ∙ q)) in
-      let (u, _) = (need-ok _ _ _ _).0 e in
-      eqb→eq (length vs) (get_or (book_in s h).arities r 0) u

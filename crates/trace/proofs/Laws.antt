@@ -2,8 +2,9 @@
 use Prim.Native.Nat.{ℕ, ◌+◌, ◌<◌, ◌≤◌}
 use native.Mathlib.Omega.{arith}
 use mathlib.Core.Path.{◌≡◌, refl, sym, ap, ◌∙◌}
+use Rattle.std.proofs.Common.{length-set}
 use mathlib.Core.Logic.{◌≢◌, ◌⊎◌, inl, inr}
-use mathlib.Core.List.{List, []}
+use mathlib.Core.List.{List}
 use mathlib.Core.Bool.{Bool, true, false}
 use lib.ListN.{length, get_or, set, take, drop, replicate, length-drop}
 use lib.Seq.{drop-drop}
@@ -12,6 +13,7 @@ use lib.IntN.{ℤ, pos}
 use borrow.Author.Tests.{le-leb, lt-leb}
 use Rattle.meaning.specs.Book.{Book, Fact, body, head}
 use Rattle.meaning.specs.State.{Control, State, write, flags}
+use Rattle.reply.specs.Answer as reply
 use Rattle.reply.specs.Answer.{ok, number, need, and_then, refuse, told, Outcome}
 use Rattle.lists.specs.Compare.{eq_vals, first_diff}
 use Rattle.lists.specs.Instance.{clause_number, clause_at, step_at, judge}
@@ -20,21 +22,25 @@ use Rattle.lists.specs.Laws.{enabled-exact}
 use Rattle.lists.specs.Enabled.{refusal_place, enabled-number, enabled-zero, enabled-refused}
 use Rattle.lists.specs.Due.{walk_due, walk-due-none}
 use Rattle.lists.proofs.Due.{walk-due-more}
+use Rattle.cursor.proofs.Laws.{via}
 use Rattle.book.specs.declared.Header.{Header}
 use Rattle.book.specs.Read.{read}
 use Rattle.book.specs.Meaning.{book_in}
 use Rattle.book.specs.Joined.{count-is}
 use Rattle.book.specs.Arities.{relations-are}
-use Rattle.table.specs.Table.{Tabled}
+use Rattle.table.specs.declared.Row.{Row}
+use Rattle.table.specs.Table.{IsRow}
 use Rattle.instance.specs.Values.{number_or, number_in, Whole}
 use Rattle.instance.proofs.Laws.{number_is, values_length, out-whole, enabled-stop, enabled-met, enabled-unmet, instance-room}
-use Rattle.instance.proofs.Atoms.{head_at, head-there, head-below, head-full}
+use Rattle.instance.proofs.Atoms.{head_at, head-there}
 use Rattle.asked.proofs.Judge.{need-yes, need-no, ends-well}
-use Rattle.state.specs.State.{row_put, first_rows, Sized}
-use Rattle.state.specs.Laws.{state-put, state-many, state-first}
-use Rattle.state.proofs.Shape.{relations-few, arities-few, arities-small}
+use Rattle.state.specs.declared.State as code
+use Rattle.state.specs.State.{held, row_put, first_rows, Sized}
+use Rattle.state.specs.Laws.{front_length, put-length, state-put, state-many, state-first}
+use Rattle.state.proofs.Shape.{arities-few, arities-small}
+use Rattle.state.proofs.Laws.{head_few}
 use Rattle.state.proofs.Difference.{diff-all}
-use Rattle.trace.specs.Step.{state_in, enabled, next_state, ends}
+use Rattle.trace.specs.Step.{enabled, next_state, ends}
 use Rattle.std.specs.Prelude.{Ok, Err}
 
 -- ---- the end
@@ -47,8 +53,6 @@ module _ (b : Book) (C : Control) (σ : State C) (f : Fact) (n : ℕ) {x : Outco
   pub end-missed : r ≡ has b C f σ → r ≡ false → x ≡ Err (refuse 17 n) → x ≡ told (ends b C σ f n)
   unfolding ends
   end-missed p q e = need-no 17 n _ _ p q e
-
-pub ruleset end-laws = (end-met, end-missed)
 
 -- ---- what is due from a place on
 
@@ -99,44 +103,50 @@ module _ (b : Book) (C : Control) (f : Fact) (l : List ℤ) (i : ℕ) (σ : Stat
 
 -- ---- one step of the code: it has the clause number as k, and a state has `more` numbers
 
-module _ {s : List ℕ} {h : Header} {t : List (List ℕ)} (w : Tabled s h t) (l : List ℤ) (i more : ℕ) (z : Sized (book_in s h) flags more) (lt : i < length l) (fs : List Bool) (vs : List (List ℤ)) where
-  abbrev judged_step : ℕ
-  judged_step = number (enabled (book_in s h) flags (number_in s h l i) (drop (i + 1) l) i (state_in s h fs vs))
+module _ (s : List ℕ) (h : Header) (good : read s ≡ Ok h) (l : List ℤ) (i : ℕ) {more : ℕ} (z : Sized (book_in s h) flags more) (lt : i < length l) (σ : code.State) where
+  abbrev b : Book
+  b = book_in s h
+
+  abbrev number_here : ℕ
+  number_here = number_in s h l i
 
   abbrev met_here : Bool
-  met_here = meets (book_in s h) flags (body (book_in s h) (step_at (book_in s h) (number_in s h l i) (drop (i + 1) l))) (state_in s h fs vs)
+  met_here = meets b flags (body b (step_at b number_here (drop (i + 1) l))) (held b σ)
 
-  module _ {n : ℕ} (e : n ≡ number (judge (book_in s h) (number_in s h l i) more (drop (i + 1) l) i)) where
+  abbrev judged_step : ℕ
+  judged_step = number (enabled b flags number_here (drop (i + 1) l) i (held b σ))
+
+  module _ {n : ℕ} (e : n ≡ number (judge b number_here more (drop (i + 1) l) i)) where
     pub step-stop : (n ≡ 0 → ⊥) → n ≡ judged_step
     unfolding enabled
-    step-stop stop = rw (← z.is) (enabled-stop s h w.good l i more e met_here stop)
+    step-stop stop = rw (← z.is) (enabled-stop s h good l i more e met_here stop)
 
     module _ (none : n ≡ 0) {k : ℕ} (q : k ≡ number_or h.count (get_or l i (pos 0))) where
-      same : number_in s h l i ≡ k
-      same = number_is s h w.good l i q
+      same : number_here ≡ k
+      same = number_is s h good l i q
 
       -- what `meets` asks
-      pub step-there : (k < h.count) × (i + 1 + (clause_at (book_in s h) k).vars ≤ length l)
-      step-there = let (a, b) = instance-room s h w.good l i more e none lt in (rw same at a, omega (arith, rw same at b))
+      pub step-there : (k < h.count) × (i + 1 + (clause_at b k).vars ≤ length l)
+      step-there = let (x, y) = instance-room s h good l i more e none lt in (rw same at x, omega (arith, rw same at y))
 
-      module _ {r : Bool} (m : r ≡ meets (book_in s h) flags (body (book_in s h) (step_at (book_in s h) k (drop (i + 1) l))) (state_in s h fs vs)) where
+      module _ {r : Bool} (m : r ≡ meets b flags (body b (step_at b k (drop (i + 1) l))) (held b σ)) where
         at-number : r ≡ met_here
         at-number = rw same m
 
         pub step-met : r ≡ true → 0 ≡ judged_step
         unfolding enabled
-        step-met y = rw (← z.is) (enabled-met s h w.good l i more e none met_here at-number y)
+        step-met y = rw (← z.is) (enabled-met s h good l i more e none met_here at-number y)
 
         pub step-unmet : r ≡ false → 16 ≡ judged_step
         unfolding enabled
-        step-unmet y = rw (← z.is) (enabled-unmet s h w.good l i more e none met_here at-number y)
+        step-unmet y = rw (← z.is) (enabled-unmet s h good l i more e none met_here at-number y)
 
   -- ---- after it
 
   module _ {n : ℕ} (e : n ≡ judged_step) where
     pub stop-small : n < 256
     unfolding enabled
-    stop-small = go (enabled-number (book_in s h) (number_in s h l i) (size (book_in s h) flags) (drop (i + 1) l) i met_here)
+    stop-small = go (enabled-number b number_here (size b flags) (drop (i + 1) l) i met_here)
       where
         go : (judged_step ≡ 0) ⊎ ((12 ≤ judged_step) × (judged_step ≤ 16)) → n < 256
         go (inl y) = omega arith
@@ -144,67 +154,109 @@ module _ {s : List ℕ} {h : Header} {t : List (List ℕ)} (w : Tabled s h t) (l
 
     pub stop-whole : n ≡ 14 → Whole s h l i
     unfolding enabled
-    stop-whole y = out-whole s h l i (size (book_in s h) flags) met_here w.good lt (sym e ∙ y)
+    stop-whole y = out-whole s h l i (size b flags) met_here good lt (sym e ∙ y)
 
-    -- it may be taken: the code goes on with its head in the state, and its next state stands at place j
+    -- it may be taken, and the code goes on with the state τ, in which its head is put
     module _ (none : n ≡ 0) {k : ℕ} (q : k ≡ number_or h.count (get_or l i (pos 0))) where
-      here : number_in s h l i ≡ k
-      here = number_is s h w.good l i q
+      here : number_here ≡ k
+      here = number_is s h good l i q
 
-      judged-ok : enabled (book_in s h) flags (number_in s h l i) (drop (i + 1) l) i (state_in s h fs vs) ≡ ok
+      judged-ok : enabled b flags number_here (drop (i + 1) l) i (held b σ) ≡ ok
       unfolding enabled
-      judged-ok = enabled-zero (book_in s h) (number_in s h l i) (size (book_in s h) flags) (drop (i + 1) l) i met_here (sym e ∙ none)
+      judged-ok = enabled-zero b number_here (size b flags) (drop (i + 1) l) i met_here (sym e ∙ none)
 
-      stands : (k < h.count) × (i + 1 + (clause_at (book_in s h) k).vars + more ≤ length l)
+      pub on_stands : (k < h.count) × (i + 1 + (clause_at b k).vars + more ≤ length l)
       unfolding enabled
-      stands =
-          let (one, room, met) = (enabled-exact (book_in s h) (number_in s h l i) (size (book_in s h) flags) (drop (i + 1) l) i met_here).0 judged-ok in
-          let below : number_in s h l i < h.count = omega (arith, one.there, count-is s h w.good) in
-          let long : i + 1 + (clause_at (book_in s h) (number_in s h l i)).vars + more ≤ length l = omega (arith, room, length-drop (i + 1) l, z.is) in
+      on_stands =
+          let (one, room, met) = (enabled-exact b number_here (size b flags) (drop (i + 1) l) i met_here).0 judged-ok in
+          let below : number_here < h.count = omega (arith, one.there, count-is s h good) in
+          let long : i + 1 + (clause_at b number_here).vars + more ≤ length l = omega (arith, room, length-drop (i + 1) l, z.is) in
           (rw here at below, rw here at long)
 
-      pub on_below : k < h.count
-      on_below = stands.0
+      module _ {row : Row} (w : IsRow s h k row) where
+        -- where the next state stands, and that it is there
+        pub on-at : i + 1 + row.variables ≡ i + 1 + (clause_at b number_here).vars
+        on-at = rw here (omega (arith, w.vars))
 
-      pub on_room : i + 1 + (clause_at (book_in s h) k).vars ≤ length l
-      on_room = omega (arith, stands.1)
+        pub on_fits : i + 1 + row.variables + more ≤ length l
+        on_fits = omega (arith, on_stands.1, w.vars)
 
-      pub on-head : {r : ℕ} → r ≡ get_or (get_or t k []) 4 0 → r < 16
-      on-head y = omega (arith, head-below w on_below l (i + 1), relations-few s h w.good)
+        pub on-moved : {τ : code.State} → length σ.flags ≡ 16 → length σ.rows ≡ 16
+            → τ.flags ≡ set σ.flags (head b (step_at b k (drop (i + 1) l))).rel true → τ.rows ≡ row_put (head b (step_at b k (drop (i + 1) l))) σ.rows
+            → held b τ ≡ write flags (head b (step_at b number_here (drop (i + 1) l))) (held b σ)
+        on-moved a c d e =
+            let f = head b (step_at b k (drop (i + 1) l)) in
+            let is = head_at w l (i + 1) in
+            let rel : f.rel ≡ row.head.relation = ap (λ (g : Fact). g.rel) is in
+            let full : length f.vals ≡ get_or b.arities f.rel 0 =
+            ap (λ (g : Fact). length g.vals) is ∙ values_length l (head-there w l (i + 1) (omega (arith, on_stands.1))) ∙ w.head.full ∙ ap (λ (m : ℕ). get_or b.arities m 0) (sym rel) in
+            let low : row.head.relation < 16 = head_few good w in
+            rw (here, d, e) (state-put b.arities σ.flags σ.rows f full (omega arith) (omega arith))
 
-      -- the state with the head put in
-      pub on-moved : {r : ℕ} (us : List (List ℤ)) → r ≡ get_or (get_or t k []) 4 0 → length fs ≡ 16 → length vs ≡ 16 → us ≡ row_put (head (book_in s h) (step_at (book_in s h) k (drop (i + 1) l))) vs
-          → state_in s h (set fs r true) us ≡ write flags (head (book_in s h) (step_at (book_in s h) (number_in s h l i) (drop (i + 1) l))) (state_in s h fs vs)
-      on-moved {r} us y a b c =
-          let f = head (book_in s h) (step_at (book_in s h) k (drop (i + 1) l)) in
-          let is = head_at w on_below l (i + 1) in
-          let rel : f.rel ≡ r = ap (λ (g : Fact). g.rel) is ∙ sym y in
-          let full : length f.vals ≡ get_or (book_in s h).arities f.rel 0 =
-          ap (λ (g : Fact). length g.vals) is ∙ values_length l (head-there w on_below l (i + 1) on_room) ∙ head-full w on_below l (i + 1)
-          ∙ ap (λ (m : ℕ). get_or (book_in s h).arities m 0) (sym y ∙ sym rel) in
-          let low : r < 16 = on-head y in
-          rw (here, c, ← rel) (state-put (book_in s h).arities fs vs f full (omega arith) (omega arith))
+-- ---- the walk, with a state of `more` numbers, at place i in the state σ
 
-      -- where the next state stands, and the place after it
-      module _ {v j : ℕ} (y : v ≡ get_or (get_or t k []) 0 0) (x : j ≡ i + 1 + v) where
-        vars : (clause_at (book_in s h) k).vars ≡ v
-        vars = (w.row k on_below).vars ∙ sym y
+pub record Going (s : List ℕ) (h : Header) (f : Fact) (l : List ℤ) (more i : ℕ) (σ : code.State) : Type 0 where
+  pub flags_there : length σ.flags ≡ 16
+  pub rows_there : length σ.rows ≡ 16
+  pub there : i ≤ length l
+  pub due : told (walk_due (book_in s h) flags f l i (held (book_in s h) σ)) ≡ told (walk_due (book_in s h) flags f l more (first_of (book_in s h) flags l))
 
-        pub on-at : j ≡ i + 1 + (clause_at (book_in s h) (number_in s h l i)).vars
-        on-at = rw here (omega (arith, vars))
+module _ (s : List ℕ) (h : Header) (good : read s ≡ Ok h) (f : Fact) (l : List ℤ) {more : ℕ} (z : Sized (book_in s h) flags more) where
+  abbrev system : Book
+  system = book_in s h
 
-        pub on_fits : j + more ≤ length l
-        on_fits = omega (arith, stands.1, vars)
+  abbrev whole_walk : reply.Answer
+  whole_walk = walk_due system flags f l more (first_of system flags l)
 
--- the numbers of a state that the code walks
-pub state-numbers : (s : List ℕ) (h : Header) (fs : List Bool) (vs : List (List ℤ)) → length (state_numbers (book_in s h) flags (state_in s h fs vs)) ≡ size (book_in s h) flags
-unfolding size
-state-numbers s h fs vs = state-many (book_in s h).arities fs vs (book_in s h)
+  pub going_start : {σ : code.State} {n : ℕ} → n ≡ h.relations → more ≤ length l → σ.flags ≡ replicate 16 false → σ.rows ≡ first_rows system.arities (drop n l) → Going s h f l more more σ
+  unfolding first_rows
+  going_start {σ} {n} k long a e =
+      let own : n ≡ length system.arities = k ∙ sym (relations-are s h good) in
+      record {
+        flags_there = ap length a;
+        rows_there = ap length e ∙ front_length (replicate 8 (pos 0)) 16 _;
+        there = long;
+        due = ap (λ (τ : State flags). told (walk_due system flags f l more τ))
+            (rw (a, e, own) (state-first system l (arities-few s h good) (arities-small s h good) (omega (arith, z.is))));
+      }
 
--- the first state, as the code has it
-pub state-start : (s : List ℕ) (h : Header) (l : List ℤ) (n : ℕ) (us : List (List ℤ)) → read s ≡ Ok h → n ≡ h.relations → size (book_in s h) flags ≤ length l
-    → us ≡ first_rows (book_in s h).arities (drop n l) → state_in s h (replicate 16 false) us ≡ first_of (book_in s h) flags l
-state-start s h l n us good k long e =
-    let here : us ≡ first_rows (book_in s h).arities (drop (length (book_in s h).arities) l) =
-    e ∙ ap (λ (m : ℕ). first_rows (book_in s h).arities (drop m l)) (k ∙ sym (relations-are s h good)) in
-    rw here (state-first (book_in s h) l (arities-few s h good) (arities-small s h good) long)
+  module _ {i : ℕ} {σ : code.State} (g : Going s h f l more i σ) where
+    -- the list ends
+    pub going_done : {x : Outcome} {r : Bool} → length l ≤ i → r ≡ has system flags f (held system σ) → r ≡ true → x ≡ Ok 0 → x ≡ told whole_walk
+    going_done stop p q e = via g.due (due-end system flags f l i _ g.there stop (end-met system flags _ f _ p q e))
+
+    pub going-missed : {x : Outcome} {r : Bool} → length l ≤ i → r ≡ has system flags f (held system σ) → r ≡ false → x ≡ Err (refuse 17 (length l)) → x ≡ told whole_walk
+    going-missed stop p q e = via g.due (due-end system flags f l i _ g.there stop (end-missed system flags _ f _ p q e))
+
+    module _ (lt : i < length l) {n : ℕ} (e : n ≡ number (enabled system flags (number_in s h l i) (drop (i + 1) l) i (held system σ))) where
+      -- a step is refused
+      pub going-stop : {x : Outcome} {p : ℕ} → n ≢ 0 → p ≡ refusal_place system (number_in s h l i) (drop (i + 1) l) i n → x ≡ Err (refuse n p) → x ≡ told whole_walk
+      going-stop stop at q = via g.due (due-stop system flags f l i _ lt e stop (q ∙ ap (λ (m : ℕ). Err (refuse n m)) at))
+
+      -- a step is taken, by clause k: its head is put into the state, and the next state is due
+      module _ (none : n ≡ 0) {k : ℕ} (q : k ≡ number_or h.count (get_or l i (pos 0))) {row : Row} (w : IsRow s h k row)
+          {τ : code.State} (a : τ.flags ≡ set σ.flags (head system (step_at system k (drop (i + 1) l))).rel true) (b : τ.rows ≡ row_put (head system (step_at system k (drop (i + 1) l))) σ.rows)
+          {d : ℕ} (y : d ≡ first_diff (i + 1 + row.variables) (drop (i + 1 + row.variables) l) (state_numbers system flags (held system τ))) where
+        moved : held system τ ≡ write flags (head system (step_at system (number_in s h l i) (drop (i + 1) l))) (held system σ)
+        moved = on-moved s h good l i z lt σ e none q w g.flags_there g.rows_there a b
+
+        at : i + 1 + row.variables ≡ i + 1 + (clause_at system (number_in s h l i)).vars
+        at = on-at s h good l i z lt σ e none q w
+
+        many : length (state_numbers system flags (held system τ)) ≡ size system flags
+        unfolding size
+        many = state-many system.arities τ.flags τ.rows system
+
+        fits : i + 1 + row.variables + more ≤ length l
+        fits = on_fits s h good l i z lt σ e none q w
+
+        pub going-differs : {x : Outcome} → d < i + 1 + row.variables + more → x ≡ Err (refuse 19 d) → x ≡ told whole_walk
+        going-differs c v = via g.due (due-differs system flags f l i _ lt e none _ moved at many (omega (arith, fits, z.is)) y z.is c v)
+
+        pub going_on : i + 1 + row.variables + more ≤ d → Going s h f l more (i + 1 + row.variables + more) τ
+        going_on c = record {
+          flags_there = ap length a ∙ length-set σ.flags _ true ∙ g.flags_there;
+          rows_there = ap length b ∙ put-length _ σ.rows ∙ g.rows_there;
+          there = fits;
+          due = via g.due (due-on system flags f l i _ lt e none _ moved at many (omega (arith, fits, z.is)) y z.is c refl);
+        }

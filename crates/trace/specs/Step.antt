@@ -1,18 +1,11 @@
 -- What one step of a trace answers, the state after it, and the end of the list.
-use Rattle.std.specs.Prelude.{ℕ, Bool, List, take, drop, ℤ}
+use Rattle.std.specs.Prelude.{ℕ, List, take, drop, ℤ}
 use Rattle.meaning.specs.Book.{Book, Fact, body}
-use Rattle.meaning.specs.State.{Control, State, flags}
+use Rattle.meaning.specs.State.{Control, State}
 use Rattle.reply.specs.Answer.{Answer, ok, need}
 use Rattle.lists.specs.Compare.{eq_vals, first_diff}
 use Rattle.lists.specs.Instance.{step_at, judge_enabled}
 use Rattle.lists.specs.Trace.{size, state_numbers, has, meets}
-use Rattle.book.specs.declared.Header.{Header}
-use Rattle.book.specs.Meaning.{book_in}
-use Rattle.state.specs.State.{state_of}
-
--- the state that the code walks
-abbrev pub state_in : List ℕ → Header → List Bool → List (List ℤ) → State flags
-state_in s h fs vs = state_of (book_in s h).arities fs vs
 
 module _ (b : Book) (C : Control) where
   -- 12 to 16: a step by clause k from place i on in the state σ, its inputs at the front of l

@@ -8,8 +8,8 @@ use std::io::Write;
 
 fn run<W: Write>(out: &mut W, book: &[u8], room: &mut [u8]) -> io::Result<()> {
     match text::print(book, room) {
-        reply::Answer::Done(n) => out.write_all(&room[..n]),
-        reply::Answer::Refused(r) => writeln!(out, "refused {} at {}", r.number, r.place),
+        Ok(n) => out.write_all(&room[..n]),
+        Err(r) => writeln!(out, "refused {} at {}", r.number, r.place),
     }
 }
 

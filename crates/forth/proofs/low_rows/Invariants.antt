@@ -1,11 +1,8 @@
-use Rattle.std.proofs.Common.{◌-◌, ◌≡◌, ◌≤◌}
+use Rattle.std.proofs.Common.{◌≡◌, ◌≤◌}
 use Rattle.meaning.specs.Book.{place_window}
-use Rattle.book.specs.Meaning.{book_in}
+use Rattle.book.specs.Held.{meant}
 use Rattle.forth.proofs.Laws.{lows_upto}
 use Rattle.forth.proofs.low_rows.Given as goal
 
 abbrev pub invariant-loop-r : goal.invariant-loop-r
-invariant-loop-r l = (l.r ≤ 16) × (l.rows ≡ lows_upto (place_window (book_in l.book l.h)) l.r)
-
-abbrev pub decreases-loop-r : goal.decreases-loop-r
-decreases-loop-r l = 16 - l.r
+invariant-loop-r l = (l.r ≤ 16) × (l.rows ≡ lows_upto (place_window (meant l.book)) l.r)

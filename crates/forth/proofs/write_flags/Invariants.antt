@@ -1,4 +1,4 @@
-use Rattle.std.proofs.Common.{false, length, map, ◌-◌, ◌≡◌, ◌≤◌}
+use Rattle.std.proofs.Common.{false, length, map, ◌≡◌, ◌≤◌}
 use Rattle.meaning.specs.State.{bit}
 use Rattle.state.specs.State.{front}
 use Rattle.steps.specs.Put.{Put}
@@ -6,6 +6,3 @@ use Rattle.forth.proofs.write_flags.Given as goal
 
 abbrev pub invariant-loop-j : goal.invariant-loop-j
 invariant-loop-j l = (l.j ≤ l.n) × (length l.room ≡ length l.initial.room) × Put l.initial.room l.room l.at (map bit (front false l.j l.flags))
-
-abbrev pub decreases-loop-j : goal.decreases-loop-j
-decreases-loop-j l = l.n - l.j

@@ -1,55 +1,39 @@
-use Rattle.std.proofs.Common.{arith, drop, get_or, length, refl, rules, ◌+◌, ◌<◌, ◌∙◌, ◌≡◌}
-use Rattle.lists.specs.Trace.{sum}
-use Rattle.book.specs.Meaning.{book_in}
-use Rattle.book.specs.Arities.{relations-are}
-use Rattle.state.proofs.Shape.{relations-few, sum_more}
+use Rattle.std.proofs.Common.{arith, length, refl, rules, ◌+◌, ◌≤◌, ◌∙◌}
+use Rattle.book.specs.Held.{meant}
+use Rattle.state.proofs.Shape.{relation-there, relation-past, relation-few, relation-places}
 use Rattle.steps.specs.Put.{put-length}
 use Rattle.forth.proofs.Laws.{placing-first, placing-more, placing-all}
-use Rattle.forth.proofs.write_places.Goals.{In-loop-r}
+use Rattle.forth.proofs.write_places.Goals.{After-arity-many}
 use Rattle.forth.proofs.write_places.Goals as goal
 
 pub loop-r-init : goal.loop-r-init
-loop-r-init c = let a = c.args in (placing-first (book_in a.book.now a.h).arities a.rows.now a.room.now a.at c.requires.fits, refl)
+loop-r-init c = let a = c.args in (placing-first (meant a.book.now).arities a.state.now.rows a.room.now a.at c.requires, refl)
 
--- the relation that the loop is at is one of the book's
-module _ (c : In-loop-r) where
-  below : c.loop-r.r < length (book_in c.args.book.now c.args.h).arities
-  below = omega (arith, relations-are c.args.book.now c.args.h c.requires.accepted, c.wide-n.ensures.0, c.loop-r-test.true)
+-- the places of the relation that the loop is at have room
+fits : (c : After-arity-many) → c.loop-r.p + c.arity-many.result ≤ length c.loop-r.room
+fits c =
+    let z = relation-places _ _ c.args.book.now.accepted c.relations-r-end.ensures c.loop-r-test.true in
+    omega (arith, z, c.arity-many.ensures.0, c.loop-r.invariant.0.fits, c.loop-r.invariant.1)
 
-  places : sum (drop c.loop-r.r (book_in c.args.book.now c.args.h).arities)
-      ≡ get_or (book_in c.args.book.now c.args.h).arities c.loop-r.r 0 + sum (drop (c.loop-r.r + 1) (book_in c.args.book.now c.args.h).arities)
-  places = sum_more (book_in c.args.book.now c.args.h).arities c.loop-r.r below
+pub offset_bounds-state-r : goal.offset_bounds-state-r
+offset_bounds-state-r c = let k = relation-few _ _ c.args.book.now.accepted c.relations-r-end.ensures c.loop-r-test.true in search rules
 
-  few : c.loop-r.r < 16
-  few = omega (arith, relations-few c.args.book.now c.args.h c.requires.accepted, c.wide-n.ensures.0, c.loop-r-test.true)
-
-pub arity_of-many-requires : goal.arity_of-many-requires
-arity_of-many-requires c = record { accepted = c.requires.accepted; r_lt_relations = omega (arith, c.wide-n.ensures.0) }
-
-pub offset_bounds-rows-r : goal.offset_bounds-rows-r
-offset_bounds-rows-r c = let k = few (goal.at.offset_bounds-rows-r c).In-loop-r in search rules
-
-pub bounds-rows-r : goal.bounds-rows-r
-bounds-rows-r c = few (goal.at.bounds-rows-r c).In-loop-r
+pub bounds-state-r : goal.bounds-state-r
+bounds-state-r c = relation-few _ _ c.args.book.now.accepted c.relations-r-end.ensures c.loop-r-test.true
 
 pub copy-requires : goal.copy-requires
-copy-requires c =
-    let t = c.loop-r in
-    let m = c.arity_of-many.ensures in
-    (omega (arith, m.1), omega (arith, t.invariant.1, t.invariant.0.fits, places (goal.at.copy-requires c).In-loop-r, m.0))
+copy-requires c = (omega (arith, c.arity-many.ensures.1), fits (goal.at.copy-requires c).After-arity-many)
 
 pub overflow_add-p : goal.overflow_add-p
-overflow_add-p c = record { fits = omega (arith, c.loop-r.invariant.0.fits, places (goal.at.overflow_add-p c).In-loop-r, c.arity_of-many.ensures.0) }
-
-pub loop-r-smaller : goal.loop-r-smaller
-loop-r-smaller c = omega (arith, c.loop-r-test.true)
+overflow_add-p c = record { fits = omega (arith, fits (goal.at.overflow_add-p c).After-arity-many) }
 
 pub loop-r-preserved : goal.loop-r-preserved
 loop-r-preserved c =
     let a = c.args in
     let t = c.loop-r.invariant in
-    let m = c.arity_of-many.ensures in (
-      placing-more (book_in a.book.now a.h).arities a.rows.now a.room.now a.at t.0 (below (goal.at.loop-r-preserved c).In-loop-r) m.0 (omega (arith, m.1)) c.copy.ensures,
+    let m = c.arity-many.ensures in
+    let below = relation-there _ _ a.book.now.accepted c.relations-r-end.ensures c.loop-r-test.true in (
+      placing-more (meant a.book.now).arities a.state.now.rows a.room.now a.at t.0 below m.0 (omega (arith, m.1)) c.copy.ensures,
       put-length c.copy.ensures ∙ t.1,
     )
 
@@ -59,4 +43,5 @@ shape_of-room c = c.loop-r.invariant.1
 pub returns : goal.returns
 returns c =
     let a = c.args in
-    placing-all (book_in a.book.now a.h).arities a.rows.now a.room.now a.at c.loop-r.invariant.0 (omega (arith, relations-are a.book.now a.h c.requires.accepted, c.wide-n.ensures.0, c.loop-r-test.false))
+    placing-all (meant a.book.now).arities a.state.now.rows a.room.now a.at c.loop-r.invariant.0
+    (relation-past _ _ a.book.now.accepted c.relations-r-end.ensures c.loop-r-test.false)

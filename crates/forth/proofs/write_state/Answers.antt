@@ -9,18 +9,23 @@ pub write_flags-requires : goal.write_flags-requires
 write_flags-requires c =
     let a = c.args in
     let p = c.requires in
-    let n = c.wide-n.ensures.0 in
-    (omega (arith, n, relations-few a.book.now a.h p.accepted), omega (arith, n, size_is a.book.now a.h p.accepted, p.fits))
+    let n = c.relations-n.ensures in
+    (omega (arith, n, relations-few a.book.now.bytes.now a.book.now.header c.args.book.now.accepted), omega (arith, n, size_is a.book.now.bytes.now a.book.now.header c.args.book.now.accepted, p))
 
 pub write_places-requires : goal.write_places-requires
 write_places-requires c =
     let a = c.args in
     let p = c.requires in
-    let n = c.wide-n.ensures.0 in record { accepted = p.accepted; fits = omega (arith, n, size_is a.book.now a.h p.accepted, p.fits, put-length c.write_flags.ensures) }
+    let n = c.relations-n.ensures in omega (arith, n, size_is a.book.now.bytes.now a.book.now.header c.args.book.now.accepted, p, put-length c.write_flags.ensures)
 
 pub returns : goal.returns
 returns c =
     let a = c.args in
-    let n = c.wide-n in
-    put_as (put_then n.result (bits-length n.result a.flags.now) c.write_flags.ensures c.write_places.ensures)
-    (sym (numbers-are a.book.now a.h a.flags.now a.rows.now n.result c.requires.accepted n.ensures.0))
+    let n = c.relations-n in
+    put_as (put_then n.result (bits-length n.result a.state.now.flags) c.write_flags.ensures c.write_places.ensures)
+    (sym (numbers-are a.book.now.bytes.now a.book.now.header a.state.now.flags a.state.now.rows n.result c.args.book.now.accepted n.ensures))
+
+pub overflow_add-at : goal.overflow_add-at
+overflow_add-at c =
+    let a = c.args in
+    record { fits = omega (arith, c.relations-n.ensures, size_is a.book.now.bytes.now a.book.now.header a.book.now.accepted, c.requires, put-length c.write_flags.ensures, c.well_formed) }

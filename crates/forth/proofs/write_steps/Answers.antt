@@ -1,10 +1,9 @@
-use Rattle.std.proofs.Common.{arith, length, length-set, refl, ◌+◌, ◌∙◌, ◌≤◌}
-use Rattle.meaning.specs.State as meant
-use Rattle.book.specs.Meaning.{book_in}
+use Rattle.std.proofs.Common.{arith, length, length-set, ◌+◌, ◌∙◌, ◌≤◌}
+use Rattle.meaning.specs.State as meanings
+use Rattle.book.specs.Held.{meant}
 use Rattle.state.specs.Laws as state
 use Rattle.steps.specs.Put.{put-length}
-use Rattle.steps.proofs.Places.{here-cell}
-use Rattle.forth.proofs.Going.{first-state, going-first, going-all, step-here, step-below, step_room, step_small, move_asks, move-more}
+use Rattle.forth.proofs.Going.{low-first, going-first, going-all, step-below, step_room, move_asks, move-more}
 use Rattle.forth.proofs.write_steps.Goals.{After-put}
 use Rattle.forth.proofs.write_steps.Goals as goal
 
@@ -12,45 +11,39 @@ pub loop-i-init : goal.loop-i-init
 loop-i-init c =
     let a = c.args in
     let p = c.requires in
-    (rw (c.low_rows-rows.ensures, first-state a.book.now a.h p.tabled.good) (going-first (book_in a.book.now a.h) meant.flags a.list.now a.size a.room.now _ (omega (arith, p.fits))), refl, rw c.low_rows-rows.ensures)
+    let w = c.low_state-state.ensures in (
+      rw (low-first _ _ a.table.now.book.accepted _ w) (going-first (meant a.table.now.book) meanings.flags a.list.now a.size a.room.now _ (omega (arith, p.fits))),
+      rw w.0,
+      rw w.1,
+    )
 
-pub cell-n-requires : goal.cell-n-requires
-cell-n-requires c =
+pub row-requires : goal.row-requires
+row-requires c =
     let p = c.requires in
     let t = c.loop-i in
-    (here-cell p.tabled (step-here p.tabled p.walk p.sized p.fits t.flags t.rows t.invariant.0 c.loop-i-test.true) c.number_at-k.ensures, omega arith)
-
-pub cell-r-requires : goal.cell-r-requires
-cell-r-requires c =
-    let p = c.requires in
-    let t = c.loop-i in
-    (here-cell p.tabled (step-here p.tabled p.walk p.sized p.fits t.flags t.rows t.invariant.0 c.loop-i-test.true) c.number_at-k.ensures, omega arith)
-
-pub bounds-flags-r : goal.bounds-flags-r
-bounds-flags-r c =
-    let p = c.requires in
-    let t = c.loop-i in
-    step_small p.tabled p.walk p.sized p.fits t.flags t.rows t.invariant.0 c.loop-i-test.true c.number_at-k.ensures c.cell-r.ensures.0
+    step-below _ _ c.args.table.now.book.accepted p.walk p.sized p.fits t.state t.invariant.0 c.loop-i-test.true c.number_at-k.ensures
 
 pub put-requires : goal.put-requires
 put-requires c =
     let p = c.requires in
     let t = c.loop-i in
+    let good = c.args.table.now.book.accepted in
     let q = c.loop-i-test.true in
-    let e = c.number_at-k.ensures in record { tabled = p.tabled; k_lt_count = (step-below p.tabled p.walk p.sized p.fits t.flags t.rows t.invariant.0 q e, step_room p.tabled p.walk p.sized p.fits t.flags t.rows t.invariant.0 q e) }
+    let e = c.number_at-k.ensures in
+    (step-below _ _ good p.walk p.sized p.fits t.state t.invariant.0 q e, step_room _ _ good p.walk p.sized p.fits t.state t.invariant.0 q e)
 
 -- the list and the room hold the step's numbers and the state after it
 asks : (c : After-put) →
-    (c.loop-i.i + (1 + c.cell-n.result) ≤ length c.args.list.now) × (c.loop-i.at + (1 + c.cell-n.result) + c.args.size ≤ length c.loop-i.room)
+    (c.loop-i.i + (1 + c.row.result.variables) ≤ length c.args.list.now) × (c.loop-i.at + (1 + c.row.result.variables) + c.args.size ≤ length c.loop-i.room)
 asks c =
     let p = c.requires in
     let t = c.loop-i in
-    move_asks p.tabled p.walk p.sized p.fits t.flags t.rows t.invariant.0 c.loop-i-test.true c.number_at-k.ensures c.cell-n.ensures.0 c.cell-r.ensures.0 t.invariant.1 t.invariant.2 c.put.ensures
+    move_asks _ _ c.args.table.now.book.accepted p.walk p.sized p.fits t.state t.invariant.0 c.loop-i-test.true c.number_at-k.ensures c.row.ensures
+    t.invariant.1 t.invariant.2 c.put.new.self c.put.ensures.flags c.put.ensures.rows
 
 pub write_move-requires : goal.write_move-requires
 write_move-requires c =
-    let p = c.requires in
-    let (list, room) = asks (goal.at.write_move-requires c).After-put in record { accepted = p.tabled.good; fits = (list, omega (arith, room, p.sized.is)) }
+    let (list, room) = asks (goal.at.write_move-requires c).After-put in (list, omega (arith, room, c.requires.sized.is))
 
 pub overflow_add-at : goal.overflow_add-at
 overflow_add-at c = record { fits = omega (arith, (asks (goal.at.overflow_add-at c).After-put).1, put-length c.loop-i.invariant.0.put, c.well_formed) }
@@ -68,10 +61,10 @@ pub loop-i-preserved : goal.loop-i-preserved
 loop-i-preserved c =
     let p = c.requires in
     let t = c.loop-i in (
-      move-more p.tabled p.walk p.sized p.fits t.flags t.rows t.invariant.0 c.loop-i-test.true c.number_at-k.ensures c.cell-n.ensures.0 c.cell-r.ensures.0 t.invariant.1 t.invariant.2 c.put.ensures
-          c.write_move.ensures,
-      rw length-set t.invariant.1,
-      rw c.put.ensures (state.put-length _ t.rows ∙ t.invariant.2),
+      move-more _ _ c.args.table.now.book.accepted p.walk p.sized p.fits t.state t.invariant.0 c.loop-i-test.true c.number_at-k.ensures c.row.ensures
+          t.invariant.1 t.invariant.2 c.put.new.self c.put.ensures.flags c.put.ensures.rows c.write_move.ensures,
+      rw (c.put.ensures.flags, length-set) t.invariant.1,
+      rw c.put.ensures.rows (state.put-length _ t.state.rows ∙ t.invariant.2),
     )
 
 pub shape_of-room : goal.shape_of-room

@@ -1,17 +1,8 @@
-use Rattle.model.proofs.Weighing.{replies}
+use Rattle.model.proofs.Weighing.{reply-weighed, reply-refused}
 use Rattle.model.proofs.check.Goals as goal
 
-pub returns-in_default : goal.returns-in_default
-returns-in_default c = search replies
+pub returns-in-Ok : goal.returns-in-Ok
+returns-in-Ok c = reply-weighed c.in-Ok.m c.weigh.result c.in-Ok.ensures c.weigh.ensures
 
-pub read_model-scan-requires : goal.read_model-scan-requires
-read_model-scan-requires c = search replies
-
-pub weigh-requires : goal.weigh-requires
-weigh-requires c = record { accepted = search replies; started = search replies }
-
-pub returns-in-Refused : goal.returns-in-Refused
-returns-in-Refused c = search replies
-
-pub returns-in-Moved : goal.returns-in-Moved
-returns-in-Moved c = search replies
+pub returns-in-Err : goal.returns-in-Err
+returns-in-Err c = reply-refused _ _ c.simply.result c.in-Err.r c.in-Err.ensures c.simply.ensures

@@ -1,12 +1,10 @@
-use Rattle.std.proofs.Common.{◌+◌, ◌≡◌, ◌≤◌}
+use Rattle.std.proofs.Common.{◌≡◌, ◌+◌, ◌-◌}
 use Rattle.model.specs.Reply.{clause_answer}
 use Rattle.model.proofs.Trying.{Padded, due}
 use Rattle.model.proofs.try_clause.Given as goal
 
-abbrev pub invariant-loop-left : goal.invariant-loop-left
-invariant-loop-left l =
-    (l.seen + l.left ≤ 2000001) × Padded l.n l.values
-    × (due l.book l.h l.model l.k l.n l.left l.values l.seen ≡ clause_answer l.book l.h l.model l.k l.before)
-
-abbrev pub decreases-loop-left : goal.decreases-loop-left
-decreases-loop-left l = l.left
+-- what is due from here is what was due in all
+abbrev pub invariant-loop : goal.invariant-loop
+invariant-loop l =
+    Padded l.t.clause.variables l.values × (l.seen ≡ l.before + l.counter)
+    × (due l.t (l.end - l.counter) l.values l.seen ≡ clause_answer l.t.model l.t.number l.before)

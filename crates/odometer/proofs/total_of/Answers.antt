@@ -7,7 +7,7 @@ pub loop-k-init : goal.loop-k-init
 loop-k-init c = total-none _
 
 pub overflow_add-all : goal.overflow_add-all
-overflow_add-all c = record { fits = omega (arith, capped_small _ c.loop-k.invariant, capped_small _ c.count_of.ensures) }
+overflow_add-all c = record { fits = omega (arith, capped_small _ c.loop-k.invariant, capped_small _ c.count.ensures) }
 
 pub loop-k-preserved : goal.loop-k-preserved
 loop-k-preserved c = search total-more

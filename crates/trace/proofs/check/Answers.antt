@@ -1,16 +1,15 @@
 use Rattle.reply.specs.Answer.{answers}
-use Rattle.book.proofs.Calls.{book-good}
-use Rattle.asked.proofs.Judge.{sequences}
+use Rattle.asked.proofs.Judge.{handed}
+use Rattle.book.proofs.Calls.{means, book-stop, book-on}
 use Rattle.trace.specs.Answer.{answer}
 use Rattle.trace.proofs.check.Goals as goal
 
-pub returns-in_default : goal.returns-in_default
+pub returns-in_err-book : goal.returns-in_err-book
 unfolding answer
-returns-in_default c = answers (search sequences)
-
-pub table_of-table-requires : goal.table_of-table-requires
-table_of-table-requires c = search book-good
+returns-in_err-book c = answers (book-stop _ _ c.in_err-book.ensures (handed _ c.from_residual.ensures))
 
 pub returns : goal.returns
 unfolding answer
-returns c = answers (search sequences)
+returns c =
+    let (b, r) = c.in_ok-book.ensures in
+    answers (book-on _ _ r (rw (means _ _ c.of.ensures b) at c.check_in.ensures))

@@ -6,4 +6,4 @@ use Rattle.whole.proofs.int_at.Goals as goal
 
 pub returns : goal.returns
 unfolding i32_at
-returns c = own w32 _ c.long.type_inv ∙ c.long.ensures ∙ ap (to_z w32) c.u32_at.ensures
+returns c = own w32 _ c.cast_signed.type_inv ∙ c.cast_signed.ensures ∙ ap (to_z w32) c.u32_at.ensures

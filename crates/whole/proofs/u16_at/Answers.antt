@@ -3,4 +3,4 @@ use Rattle.whole.proofs.u16_at.Goals as goal
 
 pub returns : goal.returns
 unfolding u16_at
-returns c = c.pair.ensures
+returns c = c.from_le_bytes.ensures

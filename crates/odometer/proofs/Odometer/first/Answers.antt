@@ -1,7 +1,7 @@
 use Rattle.std.proofs.Common.{arith, refl, rules, ◌≡◌}
 use Rattle.models.specs.Odometer.{lows}
 use Rattle.odometer.proofs.Turns.{lows-more}
-use Rattle.odometer.proofs.first_of.Goals as goal
+use Rattle.odometer.proofs.Odometer.first.Goals as goal
 
 pub loop-i-init : goal.loop-i-init
 unfolding lows
@@ -11,4 +11,4 @@ pub loop-i-preserved : goal.loop-i-preserved
 loop-i-preserved c = lows-more _ _ _ c.loop-i.invariant c.variable_window.ensures (search rules) refl
 
 pub returns : goal.returns
-returns c = let e : c.loop-i.i ≡ c.args.n = omega arith in rw e at c.loop-i.invariant
+returns c = let e : c.loop-i.i ≡ c.args.self.now.many = omega arith in rw e at c.loop-i.invariant

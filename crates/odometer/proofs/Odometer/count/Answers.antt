@@ -2,7 +2,7 @@ use Rattle.std.proofs.Common.{arith, ap, ◌∙◌, ◌≡◌}
 use Rattle.book.specs.Windows.{windowed-is, window-some}
 use Rattle.models.specs.Assignments.{width}
 use Rattle.odometer.proofs.Laws.{count_none, count-more, capped_small, product-fits}
-use Rattle.odometer.proofs.count_of.Goals as goal
+use Rattle.odometer.proofs.Odometer.count.Goals as goal
 
 pub loop-i-init : goal.loop-i-init
 loop-i-init c = count_none _
@@ -10,8 +10,8 @@ loop-i-init c = count_none _
 pub width_of-requires : goal.width_of-requires
 width_of-requires c =
     let w = c.variable_window.ensures in
-    let b = c.args.book.now in
-    rw (w.lo, w.hi) (window-some b.bytes.now b.header c.args.k _ b.accepted)
+    let b = c.args.self.now.book in
+    rw (w.lo, w.hi) (window-some b.bytes.now b.header c.args.self.now.clause _ b.accepted)
 
 pub overflow_mul-all : goal.overflow_mul-all
 overflow_mul-all c = record { fits = product-fits _ _ (capped_small _ c.loop-i.invariant) c.width_of.ensures.1 }
@@ -20,4 +20,4 @@ pub loop-i-preserved : goal.loop-i-preserved
 loop-i-preserved c = count-more _ _ c.loop-i.invariant (c.width_of.ensures.0 ∙ ap width (windowed-is c.variable_window.ensures)) c.capped-all.ensures
 
 pub returns : goal.returns
-returns c = let e : c.loop-i.i ≡ c.args.n = omega arith in rw e at c.loop-i.invariant
+returns c = let e : c.loop-i.i ≡ c.args.self.now.many = omega arith in rw e at c.loop-i.invariant

@@ -1,7 +1,7 @@
 use Rattle.std.proofs.Common.{arith, sym, ◌∙◌}
 use Rattle.odometer.proofs.Turns.{turn_up, turn-back, turn-none}
 use Rattle.cursor.proofs.Laws.{via}
-use Rattle.odometer.proofs.advance.Goals as goal
+use Rattle.odometer.proofs.Odometer.advance.Goals as goal
 
 pub returns-then-values-i : goal.returns-then-values-i
 returns-then-values-i c = search (via, turn_up)

@@ -1,8 +1,0 @@
-use Rattle.std.proofs.Common.{◌≡◌}
-use Rattle.book.specs.Windows.{windows_of}
-use Rattle.models.specs.Odometer.{up}
-use Rattle.odometer.proofs.advance.Given as goal
-
-abbrev pub invariant-loop-i : goal.invariant-loop-i
-invariant-loop-i l =
-    up (windows_of l.book.bytes.now l.book.header l.k) l.i l.values ≡ up (windows_of l.book.bytes.now l.book.header l.k) l.n l.initial.values
