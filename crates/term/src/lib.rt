@@ -1,7 +1,7 @@
 // Printing the terms of the printed text: names, limits, equations, and a clause's constraint out of the bytes that hold it.
 #![tactic(auto)]
 
-ghost use Rattle.std.specs.Prelude.{[], ◌∷◌, ◌++◌, ◌+◌, ◌*◌, ◌≤◌, length};
+ghost use Rattle.std.specs.Prelude.{◌∷◌, ◌++◌, ◌+◌, ◌*◌, ◌≤◌, length};
 ghost use Rattle.sexp.specs.Bytes.{bytes};
 ghost use Rattle.sexp.specs.Sexp.{end, ◌&◌};
 ghost use Rattle.put.specs.Digits.{digits};

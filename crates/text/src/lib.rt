@@ -1,7 +1,7 @@
 // The printed text of a book, into a lent room.
 #![tactic(auto)]
 
-ghost use Rattle.std.specs.Prelude.{◌≡◌, ◌<◌, length};
+ghost use Rattle.std.specs.Prelude.{◌≡◌, length};
 ghost use Rattle.reply.specs.Room.{Leaves};
 ghost use Rattle.meaning.specs.Book.{none_such, place_window};
 ghost use Rattle.book.specs.Held.{meant};
