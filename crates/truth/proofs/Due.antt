@@ -11,7 +11,6 @@ use lib.Dec.{eqb}
 use Rattle.meaning.specs.Constraint.{Constraint, holds}
 use Rattle.meaning.specs.Limits.{depth}
 use Rattle.cursor.specs.Steps.{pick, Read}
-
 use Rattle.cursor.specs.Meaning.{tree_of, tree_in}
 use Rattle.cursor.specs.Sound.{IsTree}
 use Rattle.truth.specs.declared.Leaf.{Leaf}
