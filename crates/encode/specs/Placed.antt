@@ -10,7 +10,6 @@ use Rattle.meaning.specs.Book.{Clause, Book, none_such}
 use Rattle.meaning.specs.Limits.{Limits}
 use Rattle.meaning.specs.Wf.{each_at}
 use Rattle.cursor.specs.Steps.{pick, value_then}
-
 use Rattle.book.specs.declared.Span.{Span}
 use Rattle.book.specs.Read.{entry_at}
 use Rattle.book.specs.Answer.{answer, accepted}

@@ -11,7 +11,6 @@ use Rattle.whole.specs.Bytes.{u16_at, i32_at, u16_bytes, i32_bytes}
 use Rattle.meaning.specs.Book.{Book, none_such}
 use Rattle.meaning.specs.Limits.{Limits}
 use Rattle.cursor.specs.Steps.{pick, value_then}
-
 use Rattle.book.specs.declared.Header.{Header}
 use Rattle.book.specs.Read.{top_arity, read, entry_at, part_at, constraint_of}
 use Rattle.book.specs.Meaning.{clause_number, book_in}
