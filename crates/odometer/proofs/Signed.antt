@@ -2,22 +2,17 @@
 use mathlib.Core.Path.{◌≡◌, sym, ap, ◌∙◌}
 use Prim.Native.Nat.{◌+◌, ◌≤◌}
 use native.Mathlib.Omega.{arith}
-use lib.Dec.{T}
 use lib.IntN.{ℤ, pos, nat_abs, ◌+ℤ◌, ◌-ℤ◌}
-use lib.Signed.{◌≤ℤ◌, non_neg}
+use lib.Signed.{◌≤ℤ◌}
 use mir.Syntax.{w32, w64}
-use mir.Val.{SFits, Fits, to_z, of_z}
-use mir.Facts.{to_z-of_z, sfits_widen}
-use Rattle.whole.specs.Whole.{Sized, sfits-is, param, kept, lit, sized--, sized-+, sized-fits, unsigned, unsigned_is, sub-nonneg}
+use mir.Val.{SFits, to_z, of_z}
+use Rattle.whole.specs.Whole.{Sized, param, kept, lit, sized--, sized-+, unsigned_is, sub-nonneg}
 use Rattle.models.specs.Assignments.{natural, width}
 use Rattle.models.specs.Gaps.{natural-pos, lowest, seat-width}
 
 -- a number of 32 bits in 64
 abbrev pub wide : ℤ → ℤ
 wide z = to_z w64 (of_z w64 (to_z w32 (of_z w32 z)))
-
-pub wide_fits : (z : ℤ) → SFits w32 z → SFits w64 (to_z w32 (of_z w32 z))
-wide_fits z f = sfits-is (to_z-of_z f) (sfits_widen {w = w32} tt f)
 
 module _ (lo hi : ℤ) (f : SFits w32 lo) (g : SFits w32 hi) where
   wide-sized : (z : ℤ) → SFits w32 z → Sized z 2147483648 (wide z)
@@ -26,14 +21,8 @@ module _ (lo hi : ℤ) (f : SFits w32 lo) (g : SFits w32 hi) where
   difference : Sized (hi -ℤ lo) 4294967296 (wide hi -ℤ wide lo)
   difference = sized-- (wide-sized hi g) (wide-sized lo f)
 
-  pub difference-fits : SFits w64 (wide hi -ℤ wide lo)
-  difference-fits = sized-fits (omega arith) difference
-
   one_more : Sized ((hi -ℤ lo) +ℤ pos 1) 4294967297 (to_z w64 (of_z w64 (wide hi -ℤ wide lo)) +ℤ pos 1)
   one_more = sized-+ (kept w64 (omega arith) difference) (lit (pos 1))
-
-  pub one-more-fits : SFits w64 (to_z w64 (of_z w64 (wide hi -ℤ wide lo)) +ℤ pos 1)
-  one-more-fits = sized-fits (omega arith) one_more
 
   abbrev pub result : ℤ
   result = to_z w64 (of_z w64 (to_z w64 (of_z w64 (wide hi -ℤ wide lo)) +ℤ pos 1))
@@ -41,9 +30,6 @@ module _ (lo hi : ℤ) (f : SFits w32 lo) (g : SFits w32 hi) where
   module _ (h : lo ≤ℤ hi) where
     positive : (hi -ℤ lo) +ℤ pos 1 ≡ pos (natural (hi -ℤ lo) + 1)
     positive = ap (λ (z : ℤ). z +ℤ pos 1) (sym (natural-pos (hi -ℤ lo) (sub-nonneg lo hi h)))
-
-    pub result_fits : T (non_neg result) × Fits w64 (nat_abs result)
-    result_fits = unsigned w64 (omega arith) (rw positive tt) (kept w64 (omega arith) one_more)
 
     pub result-is : nat_abs result ≡ width (record { lo = lo; hi = hi })
     result-is =
@@ -53,4 +39,4 @@ module _ (lo hi : ℤ) (f : SFits w32 lo) (g : SFits w32 hi) where
     pub result-small : nat_abs result ≤ 4294967297
     result-small = rw (unsigned_is (kept w64 (omega arith) one_more)) one_more.small.abs
 
-pub ruleset widths = (wide_fits, difference-fits, one-more-fits, result_fits, result-is, result-small)
+pub ruleset widths = (result-is, result-small)

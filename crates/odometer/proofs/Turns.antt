@@ -4,8 +4,9 @@ use mathlib.Core.Bool.{Bool, true, false}
 use Prim.Native.Nat.{ℕ, zero, suc, ◌+◌, ◌-◌, ◌^◌, ◌<◌, ◌≤◌}
 use native.Mathlib.Numerals.{add-one, sub-one}
 use native.Mathlib.Omega.{arith}
-use mathlib.Core.List.{List}
-use lib.ListN.{get_or, set}
+use mathlib.Core.List.{List, ◌++◌}
+use lib.ListN.{get_or, set, take, drop, take-append-drop}
+use lib.Seq.{take-set-lt}
 use lib.IntN.{ℤ, pos, ◌+ℤ◌}
 use lib.Signed.{mag, lt_z}
 use mir.Syntax.{w32}
@@ -16,13 +17,17 @@ use Rattle.meaning.specs.Book.{Window}
 use Rattle.cursor.specs.Steps.{pick}
 use Rattle.book.specs.declared.Window as code
 use Rattle.book.specs.Windows.{Windowed}
-use Rattle.models.specs.Odometer.{lows, up}
+use Rattle.models.specs.Odometer.{lows, lows-drop, up}
 
--- w is the code's window of the value that is stored
-module _ (ws : ℕ → Window) (i : ℕ) (us : List ℤ) {w : code.Window} {vs x : List ℤ} where
-  pub lows-more : vs ≡ lows ws i us → Windowed (ws i) w → SFits w32 w.lo → x ≡ set vs i (to_z w32 (of_z w32 w.lo)) → x ≡ lows ws (i + 1) us
+-- the first n values, of which the code has stored i; w is its window of the next one
+module _ (ws : ℕ → Window) (us : List ℤ) (n : ℕ) {values : List ℤ} where
+  pub lows-more : (i : ℕ) {w : code.Window} → values ≡ take n (lows ws i us) → i < n → Windowed (ws i) w → SFits w32 w.lo →
+      set values i (to_z w32 (of_z w32 w.lo)) ≡ take n (lows ws (i + 1) us)
   unfolding lows
-  lows-more p q f e = e ∙ rw (p, to_z-of_z f, q.lo, add-one i)
+  lows-more i p l q f = rw (p, to_z-of_z f, q.lo, add-one i, take-set-lt n (lows ws i us) i (ws i).lo l)
+
+  pub lows-all : values ≡ take n (lows ws n us) → values ++ drop n us ≡ lows ws n us
+  lows-all p = let e : drop n (lows ws n us) ≡ drop n us = lows-drop ws n us n (omega arith) in rw (p, ← e) (take-append-drop n (lows ws n us))
 
 up_at : (w : ℕ → Window) (i : ℕ) (vs : List ℤ) → 0 < i →
     up w i vs ≡ pick (lt_z (get_or vs (i - 1) (pos 0)) (w (i - 1)).hi) (set vs (i - 1) (get_or vs (i - 1) (pos 0) +ℤ pos 1)) (up w (i - 1) (set vs (i - 1) (w (i - 1)).lo))
@@ -41,9 +46,6 @@ module _ (h : code.Window) (vs : List ℤ) (i : ℕ) where
   one-fits k g t =
       let f : SFits w32 v = record { sfits = k } in
       fits_next f g (record { lt = rw (simp (to_z-of_z f, to_z-of_z g) at t) tt })
-
-  pub turn-fits : mag v < 2 ^ hbits w32 → SFits w32 h.hi → Less → SFits w32 (to_z w32 (of_z w32 v) +ℤ pos 1)
-  turn-fits k g t = rw (own w32 v k) (one-fits k g t)
 
   module _ (k : mag v < 2 ^ hbits w32) (g : SFits w32 h.hi) where
     test-is : {t : Bool} → lt_z (to_z w32 (of_z w32 v)) (to_z w32 (of_z w32 h.hi)) ≡ t → lt_z v h.hi ≡ t

@@ -23,14 +23,7 @@ fn width_of(w: book::Window) -> usize
 fn capped(n: usize) -> usize
     ensures { result ≡ cap n }
 {
-    if 1000000 < n { 1000001 } else { n }
-}
-
-fn times(n: usize, w: usize) -> usize
-    requires { (n ≤ 1000001) × (w ≤ 4294967297) }
-    ensures { result ≡ cap (n * w) }
-{
-    capped(n * w)
+    n.min(1000001)
 }
 
 // How many assignments the first n variables of clause k have, or 1,000,001 where they are over a million.
@@ -39,10 +32,8 @@ pub fn count_of(book: &[u8], h: book::Header, k: usize, n: u8) -> usize
     ensures { result ≡ cap (count (windows_of book.now h k) n) }
 {
     let mut all = 1;
-    let mut i = 0;
-    while i < n as usize {
-        all = times(all, width_of(book::variable_window(book, h, k, i)));
-        i += 1;
+    for i in 0..n as usize {
+        all = capped(all * width_of(book::variable_window(book, h, k, i)));
     }
     all
 }
@@ -53,11 +44,9 @@ pub fn total_of(book: &[u8], h: book::Header) -> usize
     ensures { result ≡ cap (total (book_in book.now h)) }
 {
     let mut all = 0;
-    let mut k = 0;
-    while k < h.count {
+    for k in 0..h.count {
         let l = book::record(book, h, k);
         all = capped(all + count_of(book, h, k, l.variables));
-        k += 1;
     }
     all
 }
@@ -67,13 +56,9 @@ pub fn first_of(book: &[u8], h: book::Header, k: usize, n: usize) -> [i32; 16]
     requires { n ≤ 16 }
     ensures { result ≡ lows (windows_of book.now h k) n (replicate 16 (pos 0)) }
 {
-    let mut values = [0i32; 16];
-    let mut i = 0;
-    while i < n {
-        let w = book::variable_window(book, h, k, i);
-        let lo = w.lo;
-        values[i] = lo;
-        i += 1;
+    let mut values = [0; 16];
+    for (i, value) in values[..n].iter_mut().enumerate() {
+        *value = book::variable_window(book, h, k, i).lo;
     }
     values
 }
@@ -83,17 +68,12 @@ pub fn advance(values: &mut [i32; 16], book: &[u8], h: book::Header, k: usize, n
     requires { n ≤ 16 }
     ensures { values.new ≡ up (windows_of book.now h k) n values.old }
 {
-    let mut i = n;
-    while 0 < i {
-        i -= 1;
+    for i in (0..n).rev() {
         let w = book::variable_window(book, h, k, i);
-        let v = values[i];
-        if v < w.hi {
-            let one = v + 1;
-            values[i] = one;
+        if values[i] < w.hi {
+            values[i] += 1;
             return;
         }
-        let low = w.lo;
-        values[i] = low;
+        values[i] = w.lo;
     }
 }

@@ -4,17 +4,13 @@ use Rattle.odometer.proofs.Laws.{capped_small}
 use Rattle.odometer.proofs.total_of.Goals as goal
 
 pub loop-k-init : goal.loop-k-init
-loop-k-init c = (omega arith, total-none _)
+loop-k-init c = total-none _
 
 pub overflow_add-all : goal.overflow_add-all
-overflow_add-all c =
-    let t = c.loop-k in
-    let x = capped_small _ t.invariant.1 in
-    let y = capped_small _ c.count_of.ensures in
-    record { fits = omega (arith, x, y) }
+overflow_add-all c = omega (arith, capped_small _ c.loop-k.invariant, capped_small _ c.count_of.ensures)
 
 pub loop-k-preserved : goal.loop-k-preserved
-loop-k-preserved c = (omega arith, search total-more)
+loop-k-preserved c = search total-more
 
 pub returns : goal.returns
 returns c = search total-all
