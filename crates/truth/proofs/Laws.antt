@@ -17,6 +17,7 @@ use Rattle.whole.specs.Bytes.{u16_at}
 use Rattle.meaning.specs.Constraint.{Constraint, holds, not, value_of, at_most0, is0, leaves}
 use Rattle.cursor.specs.Steps.{pick}
 use Rattle.cursor.specs.Tree.{sum_of}
+use Rattle.truth.proofs.Added.{is0-bits}
 use Rattle.truth.specs.Stood.{joins_of, size_of, leaf_of, join, joint, Alone, Stood, alone, turned, joined}
 
 -- ---- kinds
@@ -127,9 +128,9 @@ module _ (s : List ℕ) (v p k : ℕ) (xs : List ℤ) {x : Bool} where
     unfolding leaf_of pick holds
     leaf-at-most h e = rw h (e ∙ ap at_most0 (read w64 fits z).is)
 
-    pub leaf-equal : k ≡ 2 → x ≡ is0 (to_z w64 (of_z w64 m)) → x ≡ holds xs (leaf_of s v p k)
+    pub leaf-equal : k ≡ 2 → x ≡ eqb (of_z w64 m) 0 → x ≡ holds xs (leaf_of s v p k)
     unfolding leaf_of pick holds
-    leaf-equal h e = rw h (e ∙ ap is0 (read w64 fits z).is)
+    leaf-equal h e = rw h (e ∙ is0-bits m (record { sfits = fits }) ∙ ap is0 z.is)
 
     pub leaf-remainder : {d r : ℕ} → (k ≡ 0 → ⊥) → (k ≡ 1 → ⊥) → (k ≡ 2 → ⊥) → d ≡ u16_at s (p + 5 + v * 2) → r ≡ u16_at s (p + 5 + v * 2 + 2) →
         x ≡ leaves d r (to_z w64 (of_z w64 m)) → x ≡ holds xs (leaf_of s v p k)

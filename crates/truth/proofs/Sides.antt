@@ -4,13 +4,13 @@ use native.Mathlib.Nat.{pow-suc, pow-le-pow_right}
 use native.Mathlib.Omega.{arith}
 use mathlib.Core.Path.{◌≡◌, refl, sym, ap, ◌∙◌}
 use mathlib.Core.List.{List, [], ◌∷◌}
-use mathlib.Core.Bool.{Bool, true, false}
+use mathlib.Core.Bool.{Bool, true, false, beq}
 use borrow.Author.Tests.{lt-ltb, le-ltb, eq-eqb, ne_eqb}
 use lib.ListN.{length}
 use lib.Dec.{eqb, ltb}
 use Rattle.cursor.specs.Steps.{pick}
 use Rattle.truth.specs.declared.Waiting.{Waiting}
-use Rattle.truth.specs.Sides.{same_of, Side, bits_of, code, until, Opened}
+use Rattle.truth.specs.Sides.{Side, bits_of, code, until, Opened}
 
 pub bits_small : (a b : Bool) → bits_of a b < 4
 unfolding bits_of
@@ -70,11 +70,11 @@ code_fits fs h = omega (arith, code-bound fs, pow-le-pow_right {n = 4} (omega ar
 -- ---- looking for a side
 
 module _ (t : Bool) (f : Side) (fs : List Side) (n : ℕ) where
-  pub until-here : same_of t f.first ≡ true → until t (f ∷ fs) n ≡ record { sides = code (f ∷ fs); passed = n }
+  pub until-here : beq t f.first ≡ true → until t (f ∷ fs) n ≡ record { sides = code (f ∷ fs); passed = n }
   unfolding until pick
   until-here e = rw e
 
-  pub until-on : same_of t f.first ≡ false → until t (f ∷ fs) n ≡ until t fs (n + 1)
+  pub until-on : beq t f.first ≡ false → until t (f ∷ fs) n ≡ until t fs (n + 1)
   unfolding until pick
   until-on e = rw e
 
@@ -84,31 +84,31 @@ pub record Same (t : Bool) (rest passed : ℕ) (x : Waiting) : Type 0 where
   pub is : rest ≡ code list
   pub finds : until t list passed ≡ x
 
--- the code's flag b says that the side in front counts
-front : (t : Bool) (rest : ℕ) {b : Bool} (f : Side) (fs : List Side) → b ≡ same_of t (ltb 1 (rest % 4)) → rest ≡ code (f ∷ fs) → same_of t f.first ≡ b
-front t rest f fs e q = sym (e ∙ ap (λ (r : ℕ). same_of t (ltb 1 (r % 4))) q ∙ ap (same_of t) (code-first f fs))
+-- the code's test is whether the side in front counts
+front : (t : Bool) (rest : ℕ) {b : Bool} (f : Side) (fs : List Side) → beq t (ltb 1 (rest % 4)) ≡ b → rest ≡ code (f ∷ fs) → beq t f.first ≡ b
+front t rest f fs e q = rw (q, code-first f fs) at e
 
 module _ (t : Bool) (rest passed : ℕ) {x : Waiting} (w : Same t rest passed x) where
-  module _ {b : Bool} (l : 3 < rest) (e : b ≡ same_of t (ltb 1 (rest % 4))) where
-    same_next : b ≡ false → Same t (rest / 4) (passed + 1) x
+  module _ (l : 3 < rest) where
+    same_next : beq t (ltb 1 (rest % 4)) ≡ false → Same t (rest / 4) (passed + 1) x
     unfolding code
-    same_next g = go w.list w.is w.finds
+    same_next e = go w.list w.is w.finds
       where
         go : (fs : List Side) → rest ≡ code fs → until t fs passed ≡ x → Same t (rest / 4) (passed + 1) x
         go [] p q = absurd (let z : ⊥ = omega arith in z)
         go (f ∷ fs) p q = record {
           list = fs;
           is = ap (λ (r : ℕ). r / 4) p ∙ code-rest f fs;
-          finds = sym (until-on t f fs passed (front t rest f fs e p ∙ g)) ∙ q;
+          finds = sym (until-on t f fs passed (front t rest f fs e p)) ∙ q;
         }
 
-    same-found : b ≡ true → record { sides = rest; passed = passed } ≡ x
+    same-found : beq t (ltb 1 (rest % 4)) ≡ true → record { sides = rest; passed = passed } ≡ x
     unfolding code
-    same-found g = go w.list w.is w.finds
+    same-found e = go w.list w.is w.finds
       where
         go : (fs : List Side) → rest ≡ code fs → until t fs passed ≡ x → record { sides = rest; passed = passed } ≡ x
         go [] p q = absurd (let z : ⊥ = omega arith in z)
-        go (f ∷ fs) p q = ap (λ (r : ℕ). record { sides = r; passed = passed }) p ∙ sym (until-here t f fs passed (front t rest f fs e p ∙ g)) ∙ q
+        go (f ∷ fs) p q = ap (λ (r : ℕ). record { sides = r; passed = passed }) p ∙ sym (until-here t f fs passed (front t rest f fs e p)) ∙ q
 
   same_none : rest ≤ 3 → record { sides = rest; passed = passed } ≡ x
   unfolding code until
@@ -126,12 +126,12 @@ pub looks-first : (sides : ℕ) (t : Bool) → Looks sides t sides 0
 looks-first sides t = record { each = λ fs e. record { list = fs; is = e; finds = refl }; count = omega arith }
 
 module _ (sides : ℕ) (t : Bool) (rest passed : ℕ) (w : Looks sides t rest passed) where
-  module _ {b : Bool} (l : 3 < rest) (e : b ≡ same_of t (ltb 1 (rest % 4))) where
-    pub looks-next : b ≡ false → Looks sides t (rest / 4) (passed + 1)
-    looks-next g = record { each = λ fs z. same_next t rest passed (w.each fs z) l e g; count = omega (arith, w.count) }
+  module _ (l : 3 < rest) where
+    pub looks-next : beq t (ltb 1 (rest % 4)) ≡ false → Looks sides t (rest / 4) (passed + 1)
+    looks-next e = record { each = λ fs z. same_next t rest passed (w.each fs z) l e; count = omega (arith, w.count) }
 
-    pub looks-found : b ≡ true → Opened sides t (record { sides = rest; passed = passed })
-    looks-found g = record { is = λ fs z. same-found t rest passed (w.each fs z) l e g }
+    pub looks-found : beq t (ltb 1 (rest % 4)) ≡ true → Opened sides t (record { sides = rest; passed = passed })
+    looks-found e = record { is = λ fs z. same-found t rest passed (w.each fs z) l e }
 
   pub looks-none : rest ≤ 3 → Opened sides t (record { sides = rest; passed = passed })
   looks-none l = record { is = λ fs z. same_none t rest passed (w.each fs z) l }

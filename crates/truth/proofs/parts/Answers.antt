@@ -3,14 +3,6 @@ use Rattle.truth.specs.Stood.{parts_of}
 use Rattle.truth.proofs.Laws.{tests}
 use Rattle.truth.proofs.parts.Goals as goal
 
-pub returns-then-k-eq3 : goal.returns-then-k-eq3
-unfolding parts_of
-returns-then-k-eq3 c = search (tests, ways)
-
 pub returns-then-joins : goal.returns-then-joins
 unfolding parts_of
 returns-then-joins c = search (tests, ways)
-
-pub returns-else-joins : goal.returns-else-joins
-unfolding parts_of
-returns-else-joins c = search (tests, ways)
