@@ -8,7 +8,6 @@ use Rattle.reply.specs.Answer.{refused}
 use Rattle.meaning.specs.Constraint.{Constraint, truth, holds}
 use Rattle.meaning.specs.Book.{Book, Step, query}
 use Rattle.meaning.specs.Model.{Satisfies}
-
 use Rattle.book.specs.OnBook.{on_both}
 use Rattle.encode.specs.Encode.{spell, constraint_bytes}
 use Rattle.encode.specs.Stands.{stands_self}

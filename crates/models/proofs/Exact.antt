@@ -23,7 +23,6 @@ use Rattle.meaning.specs.Laws.{Laws}
 use Rattle.meaning.specs.Main.{model-derivation, model-trace, flags-model-trace}
 use Rattle.meaning.specs.Wf.{each_at}
 use Rattle.cursor.specs.declared.Cursor.{Cursor}
-
 use Rattle.cursor.specs.Inverse.{pick-by}
 use Rattle.models.specs.Read.{Part, rules, parts_at, model_in}
 use Rattle.models.specs.Walk.{Assignment, walk, total, position, satisfies, met, breaks, Finding, clean, broken, find}

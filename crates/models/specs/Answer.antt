@@ -4,7 +4,6 @@ use Rattle.reply.specs.Answer.{Answer, refused, ok, number}
 use Rattle.meaning.specs.Constraint.{truth, holds}
 use Rattle.meaning.specs.Book.{Book}
 use Rattle.cursor.specs.Steps.{pick, Read}
-
 use Rattle.book.specs.OnBook.{on_book}
 use Rattle.models.specs.Read.{Part, rules, model_in}
 use Rattle.models.specs.Walk.{Finding, clean, broken, find, walk, total}

@@ -3,7 +3,6 @@ use Rattle.std.specs.Prelude.{◌≡◌, ◌⊎◌, List, ℕ, Ok, Err}
 use Rattle.std.proofs.Math.Path.{refl}
 use Rattle.meaning.specs.Constraint.{Constraint}
 use Rattle.meaning.specs.Book.{Book}
-
 use Rattle.encode.specs.Encode.{spell, constraint_bytes}
 use Rattle.encode.specs.Stands.{Bytes}
 use Rattle.models.specs.Read.{Part, rules, model_in}

@@ -9,7 +9,6 @@ use Rattle.meaning.specs.Book.{Book, Step, Instance, head, body}
 use Rattle.meaning.specs.Model.{All, Satisfies, Model}
 use Rattle.reply.specs.declared.Refusal.{Refusal}
 use Rattle.cursor.specs.declared.Cursor.{Cursor}
-
 use Rattle.cursor.specs.Inverse.{pick-by}
 use Rattle.book.specs.Answer.{answer, accepted}
 use Rattle.book.specs.OnBook.{on-accepted}

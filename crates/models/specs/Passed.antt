@@ -16,7 +16,6 @@ use Rattle.cursor.specs.Steps.{pick, Step, Read}
 use Rattle.cursor.specs.Tree.{moved, tree_at, tree-read}
 use Rattle.cursor.specs.Meaning.{tree_of, tree_in}
 use Rattle.cursor.specs.Sound.{IsTree}
-
 use Rattle.models.specs.Read.{Part, in_model, rule_then, fresh, parts_at, model_in, rule_at, pass_at, starts_at}
 use Rattle.models.specs.Answer.{no_part}
 use Rattle.models.specs.Exact.{rule-went}

@@ -5,7 +5,6 @@ use Rattle.meaning.specs.Constraint.{Constraint}
 use Rattle.meaning.specs.Limits.{ConstraintLimits, nodes}
 use Rattle.cursor.specs.declared.Cursor.{Cursor}
 use Rattle.cursor.specs.Steps.{pick}
-
 use Rattle.cursor.specs.Inverse.{pick-then}
 use Rattle.encode.specs.Encode.{spell, constraint_bytes}
 use Rattle.encode.specs.Stands.{Stands, Bytes, stands-split, stands_self, stands-whole}
