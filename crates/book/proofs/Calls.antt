@@ -8,7 +8,7 @@ use Rattle.reply.specs.Answer as reply
 use Rattle.reply.specs.Answer.{told, Outcome}
 use Rattle.reply.specs.Room.{Due, kept, Leaves, leaves}
 use Rattle.book.specs.declared.Header.{Header}
-use Rattle.book.specs.Read.{read, Reading}
+use Rattle.book.specs.Read.{read}
 use Rattle.book.specs.Meaning.{book_in}
 use Rattle.book.specs.declared.held.Book as code
 use Rattle.book.specs.Held.{meant}

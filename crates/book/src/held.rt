@@ -3,7 +3,7 @@
 ghost use Rattle.std.specs.Prelude.{◌≡◌, Ok};
 ghost use Rattle.book.specs.Read.{read};
 
-use crate::{Header, Window, entry, laid, read_book};
+use crate::{Header, Window, entry, laid, place_window, read_book, variable_window};
 use reply::Refusal;
 
 // A book's bytes, and the header that they were accepted with.
@@ -57,13 +57,13 @@ impl<'a> Book<'a> {
     pub fn place_window(&self, r: usize, i: usize) -> Window
         ensures { Windowed (place_window (meant self.now) r i) result }
     {
-        self.header.window()
+        place_window(self.bytes, self.header, r, i)
     }
 
     // The window of variable i of clause k.
     pub fn variable_window(&self, k: usize, i: usize) -> Window
         ensures { Windowed (variable_window (meant self.now) (get_or (meant self.now).clauses k none_such) i) result }
     {
-        self.header.window()
+        variable_window(self.bytes, self.header, k, i)
     }
 }

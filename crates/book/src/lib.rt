@@ -46,16 +46,6 @@ pub struct Span {
 }
 
 impl Header {
-    // the window of every place and every variable
-    fn window(self) -> Window
-        ensures { (result.lo ≡ self.lo) × (result.hi ≡ self.hi) }
-    {
-        Window {
-            lo: self.lo,
-            hi: self.hi,
-        }
-    }
-
     // the trailer's rules; one and zero are its last two bytes
     fn judged(self, len: usize, one: u8, zero: u8) -> Result<Header, Refusal>
         requires long_enough { 16 ≤ len }
@@ -317,4 +307,20 @@ fn laid(book: &[u8], p: usize) -> cursor::Clause
         head_at: seat,
         rule: past(book, seat, head),
     }
+}
+
+// ---- the windows, of any header
+
+// The window of place i of relation r.
+pub fn place_window(book: &[u8], h: Header, r: usize, i: usize) -> Window
+    ensures { Windowed (place_window (book_in book.now h) r i) result }
+{
+    Window { lo: h.lo, hi: h.hi }
+}
+
+// The window of variable i of clause k.
+pub fn variable_window(book: &[u8], h: Header, k: usize, i: usize) -> Window
+    ensures { Windowed (variable_window (book_in book.now h) (get_or (book_in book.now h).clauses k none_such) i) result }
+{
+    Window { lo: h.lo, hi: h.hi }
 }

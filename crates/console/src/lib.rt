@@ -82,7 +82,7 @@ pub fn filled<R: Read>(input: &mut R, room: &mut [u8]) -> io::Result<bool>
 }
 
 // The next length; none at the end of the input.
-fn next_length<R: Read>(input: &mut R) -> io::Result<Option<usize>>
+pub fn next_length<R: Read>(input: &mut R) -> io::Result<Option<usize>>
     ensures within { IfOk result (λ o. IfSome o (λ n. n < 4294967296)) }
     ensures bytes { IfOk result (λ o. IfSome o (λ n. Gives (R.remaining input.old) (R.remaining input.new) n)) }
     ensures ended { IfOk result (λ o. IsNone o → IsAtEnd (R.remaining input.new)) }
@@ -124,7 +124,7 @@ pub fn next<R: Read>(input: &mut R) -> io::Result<usize>
 }
 
 // A number of eight bytes, out of its halves.
-fn long(low: usize, high: usize) -> usize
+pub fn long(low: usize, high: usize) -> usize
     requires { (low < 4294967296) × (high < 4294967296) }
     ensures { result ≡ low + high * 4294967296 }
 {
@@ -140,7 +140,7 @@ fn next_int<R: Read>(input: &mut R) -> io::Result<i32> {
 // ---- lists, in pieces: how many numbers are written of a piece, how many it has, and those written, with which it goes on over again
 
 // Puts `count` numbers of the input into the room, as far as it goes; gives how many.
-fn put_written<R: Read>(input: &mut R, room: &mut [i32], count: usize) -> io::Result<usize>
+pub fn put_written<R: Read>(input: &mut R, room: &mut [i32], count: usize) -> io::Result<usize>
     ensures length { length room.new ≡ length room.old }
     ensures ends { IfOk result (λ n. n ≡ min count (length room.old)) }
 {
@@ -179,7 +179,7 @@ fn put_piece<R: Read>(input: &mut R, room: &mut [i32], at: usize) -> io::Result<
 }
 
 // Puts the next list into the room: how many pieces it has, and these; gives its length.
-fn put_list<R: Read>(input: &mut R, room: &mut [i32]) -> io::Result<usize>
+pub fn put_list<R: Read>(input: &mut R, room: &mut [i32]) -> io::Result<usize>
     ensures { IfOk result (λ end. end ≤ length room.old) }
 {
     let pieces = next(input)?;

@@ -1,7 +1,7 @@
 -- Each reading step on what stands at its cursor: it gets what was written, and moves past it.
 use Prim.Native.Nat.{ℕ, suc, ◌+◌, ◌-◌, ◌*◌, ◌≤◌, ◌<◌}
 use native.Mathlib.Omega.{arith}
-use Rattle.std.specs.Prelude.{◌≡◌, get_or, ℤ, Ok, Err}
+use Rattle.std.specs.Prelude.{◌≡◌, get_or, ℤ, Ok}
 use Rattle.std.proofs.Math.Path.{refl, sym, ap}
 use Rattle.std.proofs.Common.{◌∙◌, SFits}
 use mathlib.Core.List.{List, [], ◌∷◌, ◌++◌}
@@ -19,7 +19,7 @@ use Rattle.cursor.specs.Tree.{joined, moved, coefficients_at, sum_of, grow, tree
 use Rattle.encode.specs.Encode.{spell, sum_bytes, constraint_bytes}
 use Rattle.encode.specs.Stands.{Stands, stands-room, stands-split}
 use Rattle.encode.specs.Digits.{u16-length, i16-length, i32-length, u16-read, i16-read, i32-read}
-use Rattle.reply.specs.Then.{go_on, ◌>>=◌}
+use Rattle.reply.specs.Then.{go_on}
 
 abbrev pub at : ℕ → ℕ → Cursor
 at p l = record { at = p; left = l }

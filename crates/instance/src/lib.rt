@@ -7,11 +7,12 @@ ghost use Rattle.reply.specs.Answer.{number};
 ghost use Rattle.lists.specs.Compare.{eq_z, eq_vals, inside, first_out};
 ghost use Rattle.lists.specs.Instance.{clause_number, clause_at, judge_clause, judge};
 ghost use Rattle.lists.specs.Enabled.{refusal_place};
+ghost use Rattle.book.specs.Meaning.{book_in};
 ghost use Rattle.book.specs.Held.{meant};
 ghost use Rattle.book.specs.Windows.{window_of};
 ghost use Rattle.instance.specs.Values.{number_or, number_in, Whole, values_at, Valued};
 
-use book::{Book, Window};
+use book::{Header, Window};
 use table::Table;
 
 // ---- numbers of a list
@@ -98,12 +99,12 @@ pub fn values_are(
 // ---- judging
 
 // The place of the first of the v values from `from` on that lies outside the window of its variable of clause k, or the place after them.
-pub fn first_out(book: &Book, k: usize, list: &[i32], from: usize, v: usize) -> usize
+pub fn first_out(book: &[u8], h: Header, k: usize, list: &[i32], from: usize, v: usize) -> usize
     requires { from + v ≤ length list.now }
-    ensures { result ≡ first_out (variable_window (meant book.now) (clause_at (meant book.now) k)) from (take v (drop from list.now)) }
+    ensures { result ≡ first_out (variable_window (book_in book.now h) (clause_at (book_in book.now h) k)) from (take v (drop from list.now)) }
 {
     for j in 0..v {
-        if !inside_at(list, from + j, book.variable_window(k, j)) {
+        if !inside_at(list, from + j, book::variable_window(book, h, k, j)) {
             return from + j;
         }
     }
@@ -124,7 +125,7 @@ pub fn judged(table: &Table, k: usize, list: &[i32], i: usize, more: usize) -> u
     if list.len() - from - v < more {
         return 13;
     }
-    if first_out(&table.book, k, list, from, v) < from + v {
+    if first_out(table.book.bytes, table.book.header, k, list, from, v) < from + v {
         return 14;
     }
     if truth::truth(
@@ -162,7 +163,7 @@ pub fn refusal_place(table: &Table, list: &[i32], i: usize, number: usize) -> us
     if number == 14 {
         let k = number_at(list, i, table.book.header.count);
         let v = table.row(k).variables as usize;
-        return first_out(&table.book, k, list, i + 1, v);
+        return first_out(table.book.bytes, table.book.header, k, list, i + 1, v);
     }
     i
 }

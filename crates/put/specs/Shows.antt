@@ -5,11 +5,11 @@ use Rattle.sexp.specs.Sexp.{Sexp, Sexps, render, items, lines}
 use Rattle.put.specs.Room.{paste, sat}
 use Rattle.put.specs.declared.Printer.{Printer}
 
--- a printer of the room r, at its front
-pub record Begins (r : MutBor (List ℕ)) (p : Printer) : Type 0 where
+-- a printer of the room r, at this place
+pub record Begins (r : MutBor (List ℕ)) (at : ℕ) (p : Printer) : Type 0 where
   pub same : p.room.ghost_name ≡ r.ghost_name
   pub room : p.room.now ≡ r.now
-  pub front : p.at ≡ 0
+  pub place : p.at ≡ at
 
 -- writing t takes a printer from p to q, in the same room
 pub record Wrote (p q : Printer) (t : List ℕ) : Type 0 where

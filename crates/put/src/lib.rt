@@ -18,11 +18,11 @@ pub struct Printer<'a> {
 impl<'a> Printer<'a> {
     ghost use Rattle.put.specs.Shows.{Begins, Wrote, Shows};
 
-    // Begins at the front of a room.
-    pub fn new(room: &'a mut [u8]) -> Printer<'a>
-        ensures { Begins room.entry result }
+    // Begins at a place of a room.
+    pub fn new(room: &'a mut [u8], at: usize) -> Printer<'a>
+        ensures { Begins room.entry at result }
     {
-        Printer { room, at: 0 }
+        Printer { room, at }
     }
 
     // How much is printed.

@@ -1,6 +1,6 @@
 -- How steps that may refuse follow one another: the next one goes on with what the one before it gave, or its refusal is handed on.
 use Rattle.std.specs.Prelude.{ℕ, ◌≡◌, refl, Result, Ok, Err}
-use Rattle.std.proofs.Common.{arith, ap, sym}
+use Rattle.std.proofs.Common.{arith, ap}
 use Rattle.reply.specs.declared.Refusal.{Refusal}
 
 -- go on with what was given, or stop at the refusal

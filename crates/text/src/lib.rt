@@ -177,7 +177,7 @@ fn write(room: &mut [u8], book: &Book) -> usize
     ensures size { result ≡ sat (length (text (meant book.now))) }
     ensures room { room.new ≡ paste room.old 0 (text (meant book.now)) }
 {
-    let mut out = Printer::new(room);
+    let mut out = Printer::new(room, 0);
     script(&mut out, book);
     out.at()
 }
