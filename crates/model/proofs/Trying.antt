@@ -99,6 +99,6 @@ module _ (t : Task) where
     unfolding due find pick
     due-next y u = rw (split n left vs some, sym q ∙ y, u)
 
-  pub due-none : (left : ℕ) (vs : List ℤ) (seen : ℕ) → left ≤ 0 → said (Ok seen) ≡ due left vs seen
+  pub due-none : (left : ℕ) (vs : List ℤ) (seen : ℕ) {x : ℕ} → left ≤ 0 → x ≡ seen → said (Ok x) ≡ due left vs seen
   unfolding due run find outcome said
-  due-none left vs seen l = let z : left ≡ 0 = omega arith in rw z
+  due-none left vs seen l e = let z : left ≡ 0 = omega arith in rw (z, e)

@@ -53,20 +53,19 @@ fn try_clause(t: &Task, before: usize) -> Result<usize, Broken>
         clause: t.number,
         many: t.clause.variables as usize,
     };
+    let count = clause.count();
     let mut values = clause.first();
-    let mut seen = before;
-    for _ in 0..clause.count() {
-        seen += 1;
+    for i in 0..count {
         if t.breaks(&values) {
             return Err(Broken {
-                count: seen,
+                count: before + i + 1,
                 clause: t.number,
                 values,
             });
         }
         clause.advance(&mut values);
     }
-    Ok(seen)
+    Ok(before + count)
 }
 
 // all clauses in order

@@ -11,30 +11,35 @@ first-values-requires c = task_few c.args.t.now
 pub advance-requires : goal.advance-requires
 advance-requires c = task_few c.args.t.now
 
-pub loop-init : goal.loop-init
-loop-init c =
-    let z : c.count-end.result - 0 ≡ c.count-end.result = omega arith in
-    (padded-first _ _ c.first-values.ensures, omega arith, rw z (due-first c.args.t.now _ c.requires.1 c.count-end.ensures c.first-values.ensures))
+pub loop-i-init : goal.loop-i-init
+loop-i-init c =
+    let z : c.count-count.result - 0 ≡ c.count-count.result = omega arith in
+    let y : c.args.before + 0 ≡ c.args.before = omega arith in
+    (padded-first _ _ c.first-values.ensures, rw (z, y) (due-first c.args.t.now _ c.requires.1 c.count-count.ensures c.first-values.ensures))
 
-pub overflow_add-seen : goal.overflow_add-seen
-overflow_add-seen c = record { fits = omega (arith, c.loop.invariant.1, c.requires.0, capped_small _ c.count-end.ensures) }
+pub overflow_add-result : goal.overflow_add-result
+overflow_add-result c = record { fits = omega (arith, capped_small _ c.count-count.ensures, c.requires.0) }
+
+pub overflow_add-result-then-breaks : goal.overflow_add-result-then-breaks
+overflow_add-result-then-breaks c = record { fits = omega (arith, capped_small _ c.count-count.ensures, c.requires.0) }
+
+pub overflow_add-result-2 : goal.overflow_add-result-2
+overflow_add-result-2 c = record { fits = omega (arith, capped_small _ c.count-count.ensures, c.requires.0) }
 
 pub breaks-requires : goal.breaks-requires
-breaks-requires c = let few = task_few c.args.t.now in omega (arith, c.loop.invariant.0.size)
+breaks-requires c = let few = task_few c.args.t.now in omega (arith, c.loop-i.invariant.0.size)
 
 pub returns-then-breaks : goal.returns-then-breaks
 returns-then-breaks c =
-    let w = c.loop.invariant in
-    via w.2 (due-broken c.args.t.now _ _ _ (omega arith) c.breaks.ensures w.0 c.if-breaks.true)
+    let w = c.loop-i.invariant in
+    via w.1 (due-broken c.args.t.now _ _ _ (omega arith) c.breaks.ensures w.0 c.if-breaks.true)
 
-pub loop-preserved : goal.loop-preserved
-loop-preserved c =
-    let w = c.loop.invariant in
-    let e : c.count-end.result - (c.loop.counter + 1) ≡ c.count-end.result - c.loop.counter - 1 = omega arith in (
-      padded-next _ _ _ c.advance.ensures w.0,
-      omega (arith, w.1),
-      rw e (due-next c.args.t.now _ _ _ (omega arith) c.breaks.ensures c.if-breaks.false c.advance.ensures ∙ w.2),
-    )
+pub loop-i-preserved : goal.loop-i-preserved
+loop-i-preserved c =
+    let w = c.loop-i.invariant in
+    let e : c.count-count.result - (c.loop-i.i + 1) ≡ c.count-count.result - c.loop-i.i - 1 = omega arith in
+    let y : c.args.before + (c.loop-i.i + 1) ≡ c.args.before + c.loop-i.i + 1 = omega arith in
+    (padded-next _ _ _ c.advance.ensures w.0, rw (e, y) (due-next c.args.t.now _ _ _ (omega arith) c.breaks.ensures c.if-breaks.false c.advance.ensures ∙ w.1))
 
 pub returns : goal.returns
-returns c = via c.loop.invariant.2 (due-none c.args.t.now _ _ _ (omega arith))
+returns c = via c.loop-i.invariant.1 (due-none c.args.t.now _ _ _ (omega arith) (omega arith))
