@@ -44,6 +44,7 @@ fn simply(answer: Answer, count: usize) -> Reply
 }
 
 // each assignment of the task's clause in order, where `before` assignments were examined before them: how many were in all, or the first broken one
+#[tactic(auto, using(odometer::proofs::Laws::capped_small))]
 fn try_clause(t: &Task, before: usize) -> Result<usize, Broken>
     requires { (before ≤ 1000000) × (count (windows_of t.now) t.now.clause.variables ≤ 1000000) }
     ensures { said result ≡ clause_answer t.now.model t.now.number before }

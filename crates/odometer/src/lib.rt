@@ -82,6 +82,7 @@ impl<'a> Odometer<'a> {
 }
 
 // How many assignments all clauses of a book have, or 1,000,001 where they are over a million.
+#[tactic(auto, using(crate::proofs::Laws::capped_small))]
 pub fn total_of(book: &Book) -> usize
     ensures { result ≡ cap (total (meant book.now)) }
 {

@@ -1,12 +1,14 @@
 use Rattle.std.proofs.Common.{arith, ◌∙◌, ◌≡◌, ◌+◌, ◌-◌}
 use Rattle.cursor.proofs.Laws.{via}
-use Rattle.odometer.proofs.Laws.{capped_small}
 use Rattle.parts.proofs.Tasks.{task_few}
 use Rattle.model.proofs.Trying.{padded-first, padded-next, due-first, due-broken, due-next, due-none}
 use Rattle.model.proofs.try_clause.Goals as goal
 
 pub first-values-requires : goal.first-values-requires
 first-values-requires c = task_few c.args.t.now
+
+pub breaks-requires : goal.breaks-requires
+breaks-requires c = omega (arith, task_few c.args.t.now, c.loop-i.invariant.0.size)
 
 pub advance-requires : goal.advance-requires
 advance-requires c = task_few c.args.t.now
@@ -16,18 +18,6 @@ loop-i-init c =
     let z : c.count-count.result - 0 ≡ c.count-count.result = omega arith in
     let y : c.args.before + 0 ≡ c.args.before = omega arith in
     (padded-first _ _ c.first-values.ensures, rw (z, y) (due-first c.args.t.now _ c.requires.1 c.count-count.ensures c.first-values.ensures))
-
-pub overflow_add-result : goal.overflow_add-result
-overflow_add-result c = record { fits = omega (arith, capped_small _ c.count-count.ensures, c.requires.0) }
-
-pub overflow_add-result-then-breaks : goal.overflow_add-result-then-breaks
-overflow_add-result-then-breaks c = record { fits = omega (arith, capped_small _ c.count-count.ensures, c.requires.0) }
-
-pub overflow_add-result-2 : goal.overflow_add-result-2
-overflow_add-result-2 c = record { fits = omega (arith, capped_small _ c.count-count.ensures, c.requires.0) }
-
-pub breaks-requires : goal.breaks-requires
-breaks-requires c = let few = task_few c.args.t.now in omega (arith, c.loop-i.invariant.0.size)
 
 pub returns-then-breaks : goal.returns-then-breaks
 returns-then-breaks c =
