@@ -98,7 +98,9 @@ pub fn next_length<R: Read>(input: &mut R) -> io::Result<Option<usize>>
 pub fn next_front<'a, R: Read>(
     input: &mut R,
     room: &'a mut [u8],
-) -> io::Result<Option<&'a mut [u8]>> {
+) -> io::Result<Option<&'a mut [u8]>>
+    ensures { IfOk result (λ o. IfSome o (λ part. Gives (R.remaining input.old) (R.remaining input.new) (length part.now))) }
+{
     let Some(n) = next_length(input)? else {
         return Ok(None);
     };
@@ -242,7 +244,9 @@ impl Space {
         input: &mut R,
         n: usize,
         room: &'a mut [i32],
-    ) -> io::Result<Option<Case<'a>>> {
+    ) -> io::Result<Option<Case<'a>>>
+        ensures { IfOk result (λ o. IfSome o (λ c. (length c.book.now ≡ n) × (length c.list.now ≤ length room.old))) }
+    {
         let Space { book, values } = self;
         let Some(book) = book.get_mut(..n) else {
             return Ok(None);

@@ -87,7 +87,7 @@ module _ (b : Book) (m : List Constraint) where
       go true p false q c r e = absurd (never e)
       go false p q' q c r e = absurd (never e)
 
-  -- the model is closed exactly when Err assignment breaks it
+  -- the model is closed exactly when no assignment breaks it
   closed-whole : Closed ↔ ((s : Step) → Assignment b s → Whole b m s)
   closed-whole = (λ c s a. whole c s a (breaks b m s) refl, λ h s i a. keeps h s i a (satisfies m (head b s)) refl)
     where
@@ -204,7 +204,7 @@ module _ (b : Book) where
     pub accepted-count : number_of (examine b s) ≡ 0 → examine b s ≡ plain ok (total b)
     accepted-count h = accepts-reply (accepts h)
 
-    -- once accepted, Err derivation of the query exists, and Err trace to it, of any length
+    -- once accepted, no derivation of the query exists, and no trace to it, of any length
     pub accepted-derivation : number_of (examine b s) ≡ 0 → ¬ Derivable b (query b)
     accepted-derivation h = model-derivation (accepts h).is
 

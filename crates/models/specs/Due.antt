@@ -18,7 +18,7 @@ pub record Plain (y : Reply) : Type 0 where
   pub zeros : ¬ (number_of y ≡ 25) → y ≡ plain y.answer y.count
   pub uncounted : ¬ (number_of y ≡ 0) → ¬ (number_of y ≡ 25) → y.count ≡ 0
 
--- ---- bytes that are Err model written out: 21 or 22
+-- ---- bytes that are no model written out: 21 or 22
 
 pub unread : (b : Book) (s : List ℕ) → Bytes s → ¬ ((ts : List Constraint) × Fit b.arities ts × (s ≡ spell constraint_bytes ts)) → (number_of (examine b s) ≡ 21) ⊎ (number_of (examine b s) ≡ 22)
 unfolding examine judged

@@ -77,7 +77,7 @@ pub record Accepts (b : Book) (s : List ℕ) : Type 0 where
 
 -- ---- refusal 25
 
--- the first broken instance of b for the model m: it is one, and Err assignment at an earlier position is
+-- the first broken instance of b for the model m: it is one, and no assignment at an earlier position is
 pub record FirstBroken (b : Book) (m : List Constraint) (s : Step) : Type 0 where
   pub is : Broken b m s
   pub earlier : (t : Step) → Assignment b t → position b t < position b s → ¬ Broken b m t
