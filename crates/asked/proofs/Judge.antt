@@ -85,23 +85,6 @@ module _ (b : Book) (r : ℕ) (vs : List ℤ) {y : Outcome} {n : ℕ} (p : y ≡
   unfolding judge_goal
   goal-full = eqb→eq (length vs) (get_or b.arities r 0) ((need-ok _ _ _ _).0 ((need-ok _ _ _ _).0 (told-done _ (sym p ∙ q))).1).0
 
--- ---- the list's length
-
-module _ (l : List ℤ) {x : Outcome} where
-  pub list-empty : length l ≡ 0 → x ≡ Err (refuse 11 0) → x ≡ told (judge_length l)
-  unfolding judge_length
-  list-empty z e = need-ge 11 0 _ 0 (length l) (omega arith) e
-
-  pub list-long : (length l ≡ 0 → ⊥) → 1000000 < length l → x ≡ Err (refuse 11 0) → x ≡ told (judge_length l)
-  unfolding judge_length
-  list-long z k e = need-lt 11 0 _ 0 (length l) (omega arith) (need-gt 11 0 _ (length l) 1000000 k e)
-
-  pub list-fits : (length l ≡ 0 → ⊥) → length l ≤ 1000000 → x ≡ Ok 0 → x ≡ told (judge_length l)
-  unfolding judge_length
-  list-fits z k e = need-lt 11 0 _ 0 (length l) (omega arith) (need-le 11 0 _ (length l) 1000000 k (ends-well e))
-
-pub ruleset lengths = (list-empty, list-long, list-fits)
-
 -- ---- where a refusal is handed on by `?`
 
 pub handed : {A E : Type 0} {f : E} (r : Result A E) → IsErr r × IsErrAnd r (λ e. e ≡ f) → r ≡ Err f
@@ -117,5 +100,3 @@ module _ (a b : reply.Answer) {x : Outcome} where
   pub then-on : {r : Outcome} {n : ℕ} → r ≡ told a → r ≡ Ok n → x ≡ told b → x ≡ told (and_then a b)
   unfolding and_then
   then-on p q e = rw (told-done a (sym p ∙ q)) e
-
-pub ruleset sequences = (then-stop, then-on, calls)

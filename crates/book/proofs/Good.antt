@@ -7,7 +7,6 @@ use lib.ListN.{length, take}
 use Rattle.book.specs.declared.Header.{Header}
 use Rattle.book.specs.Read.{trailer}
 use Rattle.book.specs.Trailer.{Trailed, trailed}
-use Rattle.book.proofs.Laws.{front_length, front-holds}
 use Rattle.std.specs.Prelude.{Ok}
 
 -- of a trailer that was read
@@ -26,12 +25,6 @@ module _ (s : List ℕ) (g : Header) (e : Ok g ≡ trailer s) where
 
 -- what lending the front up to the index asks, and an index entry
 module _ (s : List ℕ) (g : Header) (w : Trailed s g) where
-  pub good-front : g.start ≡ length (take g.start s)
-  good-front = let k = w.kept in front_length g.start s (omega arith)
-
-  pub good-holds : g.relations ≤ length (take g.start s)
-  good-holds = let k = w.kept in front-holds g.relations g.start s (omega arith) (omega arith)
-
   pub good-room : g.start ≤ length s
   good-room = let k = w.kept in omega arith
 

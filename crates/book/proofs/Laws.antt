@@ -73,11 +73,6 @@ module _ (s : List ℕ) (start n p : ℕ) (c : Cursor) where
 pub front_length : (j : ℕ) (l : List ℕ) → j ≤ length l → j ≡ length (take j l)
 front_length j l h = sym (length-take-le j l h)
 
-pub front-holds : (n j : ℕ) (l : List ℕ) → n ≤ j → j ≤ length l → n ≤ length (take j l)
-front-holds n j l k h = rw (length-take-le j l h) k
-
-pub ruleset fronts = (front_length, front-holds)
-
 pub ruleset ways = (
   cursors.ways,
   value-signed,

@@ -238,8 +238,6 @@ module _ (a b : Answer) (n : ℕ) {x y : Outcome} where
   unfolding and_then
   counted-on p q e = rw (told-done a (sym p ∙ q)) e
 
-pub ruleset counting = (counted_stop, counted-on)
-
 -- ---- the check's own answer has no steps in it
 
 module _ (a : Answer) (n : ℕ) {x y : Outcome} where
