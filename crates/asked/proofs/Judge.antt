@@ -13,12 +13,11 @@ use Rattle.reply.specs.declared.Refusal.{Refusal}
 use Rattle.reply.specs.Answer as reply
 use Rattle.reply.specs.Answer.{need, and_then, refuse, told, Outcome}
 use Rattle.reply.specs.Among.{need-ok, told-done, told-no}
-use Rattle.lists.specs.Derivation.{judge_goal, judge_length}
+use Rattle.lists.specs.Derivation.{judge_goal}
 use Rattle.book.specs.declared.Header.{Header}
 use Rattle.book.specs.Read.{read}
 use Rattle.book.specs.Meaning.{book_in}
 use Rattle.book.specs.Arities.{relations-are}
-use Rattle.book.proofs.Calls.{calls}
 use Rattle.std.specs.Prelude.{Result, Ok, Err}
 use Rattle.std.specs.Result.{IsErr, IsErrAnd}
 use Rattle.std.proofs.lemmas.Result.{err_from_is_err_and}

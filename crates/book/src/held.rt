@@ -50,7 +50,7 @@ impl<'a> Book<'a> {
         requires { r < self.now.header.relations }
         ensures { (result ≡ get_or (meant self.now).arities r 0) × (result ≤ 8) }
     {
-        whole::wide(self.bytes[r])
+        self.bytes[r] as usize
     }
 
     // The window of place i of relation r.

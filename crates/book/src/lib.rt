@@ -287,7 +287,7 @@ fn past(book: &[u8], p: usize, r: u8) -> usize
     if r == 255 {
         p + 1
     } else {
-        p + 1 + whole::wide(book[r as usize])
+        p + 1 + book[r as usize] as usize
     }
 }
 

@@ -13,7 +13,7 @@ ghost use Rattle.state.specs.State.{front, rows_of, held, Sized};
 ghost use Rattle.steps.specs.Put.{Put};
 ghost use Rattle.steps.specs.Walk.{Walk};
 
-use book::{Book, Window};
+use book::Book;
 use state::State;
 use table::Table;
 
@@ -78,20 +78,13 @@ fn write_move(
 
 // ---- the first state: no flag is set, and each place is at the low end of its window
 
-// the low end of a window
-fn low_end(w: Window) -> i32
-    ensures { result ≡ w.lo }
-{
-    w.lo
-}
-
 // the places of relation r
 fn low_row(book: &Book, r: usize) -> [i32; 8]
     ensures { result ≡ low_row (place_window (meant book.now) r) 8 }
 {
     let mut row = [0i32; 8];
     for j in 0..8 {
-        row[j] = low_end(book.place_window(r, j));
+        row[j] = book.place_window(r, j).lo;
     }
     row
 }

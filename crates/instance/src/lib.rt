@@ -50,7 +50,7 @@ pub fn spot(book: &[u8], p: usize, from: usize) -> usize
     requires { (p < length book.now) × (from + get_or book.now p 0 < 18446744073709551616) }
     ensures { result ≡ from + get_or book.now p 0 }
 {
-    from + whole::wide(book[p])
+    from + book[p] as usize
 }
 
 // Whether n arguments from byte p on have the same values as those from byte q on.

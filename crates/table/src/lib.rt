@@ -99,7 +99,6 @@ impl<'a> Table<'a> {
     }
 
     // The row of clause k.
-    #[inline(always)]
     pub fn row(&self, k: usize) -> Row
         requires { k < self.now.book.header.count }
         ensures { IsRow self.now.book.bytes.now self.now.book.header k result }

@@ -6,13 +6,6 @@ ghost use Rattle.std.specs.Int.{w16, w32};
 ghost use Rattle.whole.specs.Whole.{Signed};
 ghost use Rattle.whole.specs.Bytes.{u16_at, u32_at, i16_at, i32_at};
 
-// A byte as a count or a place.
-pub fn wide(x: u8) -> usize
-    ensures { (result ≡ x) × (result < 256) }
-{
-    usize::from(x)
-}
-
 // The number of two bytes at `at`.
 pub fn u16_at(s: &[u8], at: usize) -> u16
     requires { at + 2 ≤ length s.now }

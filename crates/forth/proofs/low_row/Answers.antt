@@ -1,4 +1,4 @@
-use Rattle.std.proofs.Common.{arith, ◌∙◌}
+use Rattle.std.proofs.Common.{arith, rules}
 use Rattle.meaning.specs.Book.{place_window}
 use Rattle.book.specs.Held.{meant}
 use Rattle.forth.proofs.Laws.{low-none, low-more, low-all}
@@ -11,7 +11,7 @@ pub loop-j-preserved : goal.loop-j-preserved
 loop-j-preserved c =
     let a = c.args in
     let t = c.loop-j in
-    (omega arith, low-more (place_window (meant a.book.now) a.r) t.row t.j c.loop-j-test.true (c.low_end.ensures ∙ c.place_window.ensures.lo) c.low_end.type_inv t.invariant.1)
+    (omega arith, low-more (place_window (meant a.book.now) a.r) t.row t.j c.loop-j-test.true c.place_window.ensures.lo (search rules) t.invariant.1)
 
 pub returns : goal.returns
 returns c =

@@ -1,4 +1,4 @@
-use Rattle.std.proofs.Common.{arith, sym, ◌∙◌}
+use Rattle.std.proofs.Common.{arith, sym}
 use Rattle.book.specs.Arities.{arity-is, arity-small}
 use Rattle.book.specs.Trailer.{read-trailed}
 use Rattle.book.proofs.held.Book.arity.Goals as goal
@@ -9,5 +9,4 @@ bounds-self-r c = let k = (read-trailed _ _ c.args.self.now.accepted).kept in om
 pub returns : goal.returns
 returns c =
     let p = c.args.self.now.accepted in
-    let e = c.wide.ensures.0 in
-    (e ∙ sym (arity-is _ _ p _ c.requires), omega (arith, e, arity-small _ _ p _ c.requires))
+    (sym (arity-is _ _ p _ c.requires), arity-small _ _ p _ c.requires)
