@@ -3,7 +3,6 @@ use Prim.Native.Nat.{ℕ, ◌+◌, ◌<◌, ◌≤◌}
 use native.Mathlib.Nat.{le_refl}
 use native.Mathlib.Omega.{arith}
 use mathlib.Core.Path.{◌≡◌, refl, sym, ap, ◌∙◌}
-use mathlib.Core.Logic.{⊎_elim}
 use mathlib.Core.Bool.{Bool, true, false, not}
 use mathlib.Core.List.{List}
 use mathlib.Core.Option.{Option, none, some}
@@ -14,17 +13,16 @@ use borrow.Author.Tests.{eq-eqb, ne_eqb}
 use Rattle.meaning.specs.Book.{Book, Fact, body}
 use Rattle.lists.specs.Compare.{eq_vals, same}
 use Rattle.reply.specs.declared.Refusal.{Refusal}
-use Rattle.reply.specs.Answer.{Answer, done, refused, ok, number, need, and_then, refuse, told, Outcome}
-use Rattle.reply.specs.Among.{Among, told-done, told-no}
+use Rattle.reply.specs.Answer.{Answer, done, refused, ok, need, and_then, refuse, told, Outcome}
+use Rattle.reply.specs.Among.{Among, told-done, told-no, told-ok}
 use Rattle.lists.specs.Instance.{step_at, judge}
 use Rattle.lists.specs.Derivation.{goal, judge_step, check, check_derivation}
-use Rattle.lists.specs.Among.{among-derivation}
+use Rattle.lists.specs.Among.{among-step, among-derivation}
 use Rattle.lists.specs.Convert.{derivation_steps}
 use Rattle.lists.specs.Due.{due, due_all, due-none}
 use Rattle.lists.proofs.Due.{due-more}
 use Rattle.lists.specs.Places.{count_due, count-due-all, count-due-none}
 use Rattle.lists.proofs.Places.{count-due-more}
-use Rattle.lists.specs.Enabled.{refusal_place, enabled-number, enabled-zero, enabled-refused}
 use Rattle.lists.specs.Laws.{enabled-exact}
 use Rattle.book.specs.declared.Header.{Header}
 use Rattle.book.specs.Meaning.{book_in}
@@ -33,8 +31,8 @@ use Rattle.book.specs.Read.{read}
 use Rattle.table.specs.declared.Seat.{Seat}
 use Rattle.table.specs.declared.Row.{Row}
 use Rattle.table.specs.Table.{IsRow}
-use Rattle.instance.specs.Values.{number_or, number_in, Whole, values_at, Valued}
-use Rattle.instance.proofs.Laws.{number_is, instance-room, out-whole}
+use Rattle.instance.specs.Values.{number_or, number_in, values_at, Valued}
+use Rattle.instance.proofs.Laws.{number_is, instance-room}
 use Rattle.instance.proofs.Atoms.{head_at, head-there, body-none, body_at, body-there, body_below}
 use Rattle.derivation.specs.declared.Step.{Step}
 use Rattle.derivation.specs.Step.{step_of, fact_after, Stands}
@@ -130,7 +128,7 @@ module _ (s : List ℕ) (h : Header) (l : List ℤ) (r : ℕ) (vs : List ℤ) wh
 -- ---- the step that begins at place i, by clause k
 
 module _ (s : List ℕ) (h : Header) (good : read s ≡ Ok h) (l : List ℤ) (i : ℕ) where
-  pub step-stands : {n k : ℕ} → i < length l → n ≡ number (judge (book_in s h) (number_in s h l i) 0 (drop (i + 1) l) i) → n ≡ 0 → k ≡ number_or h.count (get_or l i (pos 0))
+  pub step-stands : {x : Outcome} {m k : ℕ} → i < length l → x ≡ told (judge (book_in s h) (number_in s h l i) 0 (drop (i + 1) l) i) → x ≡ Ok m → k ≡ number_or h.count (get_or l i (pos 0))
       → Stands (book_in s h) l (record { clause = k; since = i + 1 })
   step-stands there e z q =
       let (b, r) = instance-room s h good l i 0 e z there in
@@ -183,27 +181,17 @@ module _ (s : List ℕ) (h : Header) (good : read s ≡ Ok h) (f : Fact) (l : Li
         let m : i ≡ length l = omega (arith, g.inside) in
         rw (← g.same-due, due-none the_book f l i o b, sym q ∙ e, m) z
 
-    module _ (there : i < length l) {n : ℕ} (e : n ≡ number (judge_step the_book (number_in s h l i) (drop (i + 1) l) i o)) where
-      pub going-small : n < 256
-      unfolding judge_step
-      going-small = ⊎_elim (λ z. omega (arith, z)) (λ z. omega (arith, z.1)) (enabled-number the_book (number_in s h l i) 0 (drop (i + 1) l) i (same (body the_book (step_at the_book (number_in s h l i) (drop (i + 1) l))) o))
+    module _ (there : i < length l) {y : Outcome} (e : y ≡ told (judge_step the_book (number_in s h l i) (drop (i + 1) l) i o)) where
+      pub going-stop : {v : Refusal} {x : Outcome} → y ≡ Err v → x ≡ Err v → x ≡ told (counted (check the_book f l) (length (derivation_steps the_book l)))
+      unfolding told counted and_then
+      going-stop {v} z q = rw (← g.same-due, due-more the_book f l i o there, told-no _ v (sym e ∙ z)) q
 
-      pub going-whole : n ≡ 14 → Whole s h l i
-      unfolding judge_step
-      going-whole z = out-whole s h l i 0 _ good there (sym e ∙ z)
-
-      pub going-stop : {p : ℕ} {x : Outcome} → (n ≡ 0 → ⊥) → p ≡ refusal_place the_book (number_in s h l i) (drop (i + 1) l) i n → x ≡ Err (refuse n p)
-          → x ≡ told (counted (check the_book f l) (length (derivation_steps the_book l)))
-      unfolding told counted and_then judge_step
-      going-stop z q y = rw (← g.same-due, due-more the_book f l i o there, enabled-refused the_book (number_in s h l i) 0 (drop (i + 1) l) i _ n (sym e) z, ← q) y
-
-      module _ (z : n ≡ 0) {k : ℕ} (q : k ≡ number_or h.count (get_or l i (pos 0))) where
+      module _ {m : ℕ} (z : y ≡ Ok m) {k : ℕ} (q : k ≡ number_or h.count (get_or l i (pos 0))) where
         abbrev now_last : Step
         now_last = record { clause = k; since = i + 1 }
 
         step_ok : judge_step the_book (number_in s h l i) (drop (i + 1) l) i o ≡ ok
-        unfolding judge_step
-        step_ok = enabled-zero the_book (number_in s h l i) 0 (drop (i + 1) l) i _ (sym e ∙ z)
+        step_ok = told-ok _ (among-step _ _ _ _ _) (sym e ∙ z)
 
         here : number_in s h l i ≡ k
         here = number_is s h good l i q

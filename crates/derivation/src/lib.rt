@@ -4,7 +4,7 @@
 ghost use Rattle.std.specs.Prelude.{◌≡◌, ◌+◌, ◌<◌, ◌≤◌, length, get_or, drop, IfSome};
 ghost use Rattle.std.proofs.Math.Option.{some};
 ghost use Rattle.meaning.specs.Book.{body};
-ghost use Rattle.reply.specs.Answer.{number, told, Answers};
+ghost use Rattle.reply.specs.Answer.{told, Answers};
 ghost use Rattle.lists.specs.Compare.{same};
 ghost use Rattle.lists.specs.Derivation.{judge_step, check as check_list, check_derivation, goal};
 ghost use Rattle.lists.specs.Convert.{derivation_steps};
@@ -14,7 +14,7 @@ ghost use Rattle.derivation.specs.Step.{step_of, fact_after, Stands};
 ghost use Rattle.derivation.specs.Answer.{counted, answer};
 
 use book::Book;
-use reply::refuse;
+use reply::{Answer, refuse};
 use table::Table;
 
 // A step of a list: its clause, and where its values stand.
@@ -52,21 +52,22 @@ fn met(table: &Table, list: &[i32], step: Step, last: Option<Step>) -> bool
     )
 }
 
-// 12 to 16: the number of the refusal of the step that begins at i, after the step `last`, if there is one; 0 for none
-fn step_at(table: &Table, list: &[i32], i: usize, last: Option<Step>) -> usize
+// 12 to 16: whether a step may begin at i, after the step `last`, if there is one
+fn step_at(table: &Table, list: &[i32], i: usize, last: Option<Step>) -> Answer
     requires i_in_bounds { i < length list.now }
     requires last { IfSome last (λ x. Stands (meant table.now.book) list.now x) }
-    ensures { result ≡ number (judge_step (meant table.now.book) (number_in table.now.book.bytes.now table.now.book.header list.now i) (drop (i + 1) list.now) i (fact_after (meant table.now.book) list.now last)) }
+    ensures { result ≡ told (judge_step (meant table.now.book) (number_in table.now.book.bytes.now table.now.book.header list.now i) (drop (i + 1) list.now) i (fact_after (meant table.now.book) list.now last)) }
 {
-    let n = instance::instance_at(table, list, i, 0);
-    if n != 0 {
-        return n;
-    }
+    instance::instance_at(table, list, i, 0)?;
     let step = Step {
         clause: instance::number_at(list, i, table.book.header.count),
         since: i + 1,
     };
-    if met(table, list, step, last) { 0 } else { 16 }
+    if met(table, list, step, last) {
+        Ok(0)
+    } else {
+        refuse(16, i)
+    }
 }
 
 // whether the head of the last step is the goal
@@ -93,7 +94,7 @@ fn ended(table: &Table, list: &[i32], last: Option<Step>, relation: usize, value
 }
 
 // the steps of the list, then the goal; done with how many steps there are
-fn walk(table: &Table, list: &[i32], relation: usize, values: &[i32]) -> reply::Answer
+fn walk(table: &Table, list: &[i32], relation: usize, values: &[i32]) -> Answer
     requires { length values.now ≡ get_or (meant table.now.book).arities relation 0 }
     ensures { result ≡ told (counted (check_list (meant table.now.book) (goal relation values.now) list.now) (length (derivation_steps (meant table.now.book) list.now))) }
 {
@@ -101,10 +102,7 @@ fn walk(table: &Table, list: &[i32], relation: usize, values: &[i32]) -> reply::
     let mut last = None;
     let mut steps = 0;
     while i < list.len() {
-        let n = step_at(table, list, i, last);
-        if n != 0 {
-            return refuse(n as u8, instance::refusal_place(table, list, i, n));
-        }
+        step_at(table, list, i, last)?;
         let clause = instance::number_at(list, i, table.book.header.count);
         let since = i + 1;
         last = Some(Step { clause, since });
@@ -119,7 +117,7 @@ fn walk(table: &Table, list: &[i32], relation: usize, values: &[i32]) -> reply::
 }
 
 // 10 to 17: whether a list is a derivation of the goal in a book that was read; done with how many steps it has
-pub fn check_in(table: &Table, list: &[i32], relation: usize, values: &[i32]) -> reply::Answer
+pub fn check_in(table: &Table, list: &[i32], relation: usize, values: &[i32]) -> Answer
     ensures { result ≡ told (counted (check_derivation (meant table.now.book) relation values.now list.now) (length (derivation_steps (meant table.now.book) list.now))) }
 {
     asked::judged_goal(&table.book, relation, values)?;
@@ -128,7 +126,7 @@ pub fn check_in(table: &Table, list: &[i32], relation: usize, values: &[i32]) ->
 }
 
 // Whether a list is a derivation of the goal, a relation and its values, in the book that the bytes hold: the answer for any input.
-pub fn check(book: &[u8], list: &[i32], relation: usize, values: &[i32]) -> reply::Answer
+pub fn check(book: &[u8], list: &[i32], relation: usize, values: &[i32]) -> Answer
     ensures { Answers (answer book.now list.now relation values.now) result }
 {
     let book = Book::open(book)?;

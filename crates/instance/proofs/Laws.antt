@@ -10,13 +10,15 @@ use mathlib.Core.List.{List, [], ◌∷◌, map}
 use lib.ListN.{length, get_or, take, drop, length-map, length-drop}
 use lib.Seq.{drop-cons, get_or-take, get_or-drop, length-take-le}
 use lib.IntN.{ℤ, pos, negsuc}
-use borrow.Author.Tests.{ltb-true, leb-true, lt-ltb, le-ltb, le-leb, lt-leb}
+use borrow.Author.Tests.{lt-ltb, le-ltb, le-leb, lt-leb}
 use Rattle.meaning.specs.Constraint.{holds}
 use Rattle.meaning.specs.Book.{Book, Clause, Window, variable_window}
-use Rattle.reply.specs.Answer.{Answer, done, refused, ok, number, need, and_then}
+use Rattle.reply.specs.declared.Refusal.{Refusal}
+use Rattle.reply.specs.Answer.{Answer, refused, ok, need, and_then, refuse, told, Outcome}
+use Rattle.reply.specs.Among.{told-no, told-ok}
 use Rattle.lists.specs.Compare.{eq_z, eq_vals, inside, all_in, first_out}
 use Rattle.lists.specs.Instance.{clause_number, clause_at, judge_clause, judge, judge_enabled}
-use Rattle.lists.specs.Enabled.{outside}
+use Rattle.lists.specs.Among.{among-judge}
 use Rattle.lists.specs.Laws.{judge-exact}
 use Rattle.book.specs.declared.Header.{Header}
 use Rattle.book.specs.declared.Window as codes
@@ -27,8 +29,8 @@ use Rattle.book.specs.Joined.{count-is}
 use Rattle.cursor.specs.Meaning.{tree_in}
 use Rattle.table.specs.declared.Row.{Row}
 use Rattle.table.specs.Table.{IsRow}
-use Rattle.instance.specs.Values.{number_or, number_in, Whole, values_at, Valued}
-use Rattle.std.specs.Prelude.{Ok}
+use Rattle.instance.specs.Values.{number_or, number_in, values_at, Valued}
+use Rattle.std.specs.Prelude.{Ok, Err}
 
 -- ---- two lists of values, compared from number j on
 
@@ -156,10 +158,10 @@ some-by w (v ∷ vs) j h = go (inside (w 0) v) refl (λ k. some-by (λ i. w (suc
     go true e ih = ap (λ (b : Bool). b && all_in (λ i. w (suc i)) vs) e ∙ ih (let k : first_out w j (v ∷ vs) ≡ first_out (λ i. w (suc i)) (suc j) vs = out-in w v vs j e in omega arith)
     go false e ih = ap (λ (b : Bool). b && all_in (λ i. w (suc i)) vs) e
 
--- ---- the number of an instance's refusal
+-- ---- what an instance answers
 
 module _ (b : Book) (c : Clause) (more : ℕ) (l : List ℤ) (i : ℕ) where
-  pub judged-short : length l < c.vars + more → number (judge_clause b c more l i) ≡ 13
+  pub judged-short : length l < c.vars + more → judge_clause b c more l i ≡ refused 13 i
   unfolding judge_clause need
   judged-short h = rw (lt-leb (c.vars + more) (length l) h)
 
@@ -167,19 +169,19 @@ module _ (b : Book) (c : Clause) (more : ℕ) (l : List ℤ) (i : ℕ) where
     long : length (take c.vars l) ≡ c.vars
     long = length-take-le c.vars l (omega arith)
 
-    pub judged-out : out < i + 1 + c.vars → number (judge_clause b c more l i) ≡ 14
+    pub judged-out : out < i + 1 + c.vars → judge_clause b c more l i ≡ refused 14 out
     unfolding judge_clause need
-    judged-out k = rw (le-leb (c.vars + more) (length l) h, some-by (variable_window b c) (take c.vars l) (i + 1) (omega (arith, long)))
+    judged-out k = rw (le-leb (c.vars + more) (length l) h, some-by (variable_window b c) (take c.vars l) (i + 1) (omega (arith, long)), q)
 
     module _ (k : i + 1 + c.vars ≤ out) {r : Bool} (t : r ≡ holds (take c.vars l) c.rule) where
       all : all_in (variable_window b c) (take c.vars l) ≡ true
       all = all-by (variable_window b c) (take c.vars l) (i + 1) (omega (arith, long))
 
-      pub judged-false : r ≡ false → number (judge_clause b c more l i) ≡ 15
+      pub judged-false : r ≡ false → judge_clause b c more l i ≡ refused 15 i
       unfolding judge_clause need
       judged-false e = rw (le-leb (c.vars + more) (length l) h, all, sym t ∙ e)
 
-      pub judged-true : r ≡ true → number (judge_clause b c more l i) ≡ 0
+      pub judged-true : r ≡ true → judge_clause b c more l i ≡ ok
       unfolding judge_clause need
       judged-true e = rw (le-leb (c.vars + more) (length l) h, all, sym t ∙ e)
 
@@ -194,7 +196,7 @@ module _ (s : List ℕ) (h : Header) (good : read s ≡ Ok h) (l : List ℤ) (i 
       go (pos n) = refl
       go (negsuc n) = count-is s h good
 
-  pub judge-none : (more : ℕ) → h.count ≤ k → number (judge (book_in s h) (number_in s h l i) more (drop (i + 1) l) i) ≡ 12
+  pub judge-none : (more : ℕ) → h.count ≤ k → judge (book_in s h) (number_in s h l i) more (drop (i + 1) l) i ≡ refused 12 i
   unfolding judge need
   judge-none more a = rw (number_is, le-ltb k (length (book_in s h).clauses) (omega (arith, count-is s h good)))
 
@@ -209,8 +211,8 @@ module _ {s : List ℕ} {h : Header} {k : ℕ} {row : Row} (w : IsRow s h k row)
   abbrev the_clause : Clause
   the_clause = clause_at (book_in s h) k
 
-  abbrev answer : ℕ
-  answer = number (judge_clause (book_in s h) the_clause more (drop (i + 1) l) i)
+  abbrev answer : Answer
+  answer = judge_clause (book_in s h) the_clause more (drop (i + 1) l) i
 
   abbrev v : ℕ
   v = row.variables
@@ -221,12 +223,12 @@ module _ {s : List ℕ} {h : Header} {k : ℕ} {row : Row} (w : IsRow s h k row)
   left : length (drop (i + 1) l) ≡ length l - (i + 1)
   left = length-drop (i + 1) l
 
-  pub code-short : length l - (i + 1) < v → 13 ≡ answer
-  code-short a = sym (judged-short (book_in s h) the_clause more (drop (i + 1) l) i (omega (arith, vars, left)))
+  pub code-short : length l - (i + 1) < v → answer ≡ refused 13 i
+  code-short a = judged-short (book_in s h) the_clause more (drop (i + 1) l) i (omega (arith, vars, left))
 
   module _ (a : v ≤ length l - (i + 1)) where
-    pub code-less : length l - (i + 1) - v < more → 13 ≡ answer
-    code-less c = sym (judged-short (book_in s h) the_clause more (drop (i + 1) l) i (omega (arith, vars, left)))
+    pub code-less : length l - (i + 1) - v < more → answer ≡ refused 13 i
+    code-less c = judged-short (book_in s h) the_clause more (drop (i + 1) l) i (omega (arith, vars, left))
 
     module _ (c : more ≤ length l - (i + 1) - v) {out : ℕ} (q : out ≡ first_out (variable_window (book_in s h) the_clause) (i + 1) (take v (drop (i + 1) l))) where
       room : the_clause.vars + more ≤ length (drop (i + 1) l)
@@ -235,78 +237,41 @@ module _ {s : List ℕ} {h : Header} {k : ℕ} {row : Row} (w : IsRow s h k row)
       at-vars : out ≡ first_out (variable_window (book_in s h) the_clause) (i + 1) (take the_clause.vars (drop (i + 1) l))
       at-vars = q ∙ ap (λ (n : ℕ). first_out (variable_window (book_in s h) the_clause) (i + 1) (take n (drop (i + 1) l))) (sym vars)
 
-      pub code_out : out < i + 1 + v → 14 ≡ answer
-      code_out d = sym (judged-out (book_in s h) the_clause more (drop (i + 1) l) i room at-vars (omega (arith, vars)))
+      pub code_out : out < i + 1 + v → answer ≡ refused 14 out
+      code_out d = judged-out (book_in s h) the_clause more (drop (i + 1) l) i room at-vars (omega (arith, vars))
 
       module _ (d : i + 1 + v ≤ out) {r : Bool} (x : r ≡ holds (take v (drop (i + 1) l)) (tree_in s v row.rule)) where
         at-rule : r ≡ holds (take the_clause.vars (drop (i + 1) l)) the_clause.rule
         at-rule = x ∙ rw (w.rule, w.vars)
 
-        pub code-false : r ≡ false → 15 ≡ answer
-        code-false z = sym (judged-false (book_in s h) the_clause more (drop (i + 1) l) i room at-vars (omega (arith, vars)) at-rule z)
+        pub code-false : r ≡ false → answer ≡ refused 15 i
+        code-false z = judged-false (book_in s h) the_clause more (drop (i + 1) l) i room at-vars (omega (arith, vars)) at-rule z
 
-        pub code-true : r ≡ true → 0 ≡ answer
-        code-true z = sym (judged-true (book_in s h) the_clause more (drop (i + 1) l) i room at-vars (omega (arith, vars)) at-rule z)
+        pub code-true : r ≡ true → answer ≡ ok
+        code-true z = judged-true (book_in s h) the_clause more (drop (i + 1) l) i room at-vars (omega (arith, vars)) at-rule z
 
--- ---- where a refusal is
+-- ---- the code's answer, where what is due is known
 
--- 14 is judged of a step that stands there with all its values
-out-after : (i q : ℕ) (t₁ t₂ t₃ t₄ t₅ : Bool) → number (and_then (need t₁ 12 i (need t₂ 13 i (need t₃ 14 q (need t₄ 15 i ok)))) (need t₅ 16 i ok)) ≡ 14 → (t₁ ≡ true) × (t₂ ≡ true)
-unfolding need and_then
-out-after i q true true t₃ t₄ t₅ e = (refl, refl)
-out-after i q true false t₃ t₄ t₅ e = absurd (let z : ⊥ = omega arith in z)
-out-after i q false t₂ t₃ t₄ t₅ e = absurd (let z : ⊥ = omega arith in z)
+module _ {a : Answer} {x : Outcome} where
+  pub as-refused : {n p : ℕ} → a ≡ refused n p → x ≡ Err (refuse n p) → x ≡ told a
+  unfolding told
+  as-refused e q = rw e q
 
-pub out-whole : (s : List ℕ) (h : Header) (l : List ℤ) (i more : ℕ) (met : Bool) → read s ≡ Ok h → i < length l
-    → number (judge_enabled (book_in s h) (number_in s h l i) more (drop (i + 1) l) i met) ≡ 14 → Whole s h l i
-unfolding judge_enabled judge judge_clause
-out-whole s h l i more met good there e =
-    let (p, q) = out-after i _ _ _ _ _ met e in
-    record {
-      there = omega (arith, ltb-true (number_in s h l i) (length (book_in s h).clauses) p, count-is s h good);
-      room = omega (arith, leb-true ((clause_at (book_in s h) (number_in s h l i)).vars + more) (length (drop (i + 1) l)) q, length-drop (i + 1) l);
-    }
+  pub as-ok : a ≡ ok → x ≡ Ok 0 → x ≡ told a
+  unfolding told
+  as-ok e q = rw e q
 
-module _ (s : List ℕ) (h : Header) (good : read s ≡ Ok h) (l : List ℤ) (i : ℕ) (x : Whole s h l i) {k : ℕ} (q : k ≡ number_or h.count (get_or l i (pos 0))) where
-  same : number_in s h l i ≡ k
-  same = number_is s h good l i q
+-- ---- a step that may be taken where its body is met, by the answer of its instance
 
-  pub whole_below : k < h.count
-  whole_below = rw same at x.there
-
-  module _ {row : Row} (w : IsRow s h k row) where
-    pub whole_room : i + 1 + row.variables ≤ length l
-    whole_room = omega (arith, rw same at x.room, w.vars)
-
-    pub whole_out : {out : ℕ} → out ≡ first_out (variable_window (book_in s h) (clause_at (book_in s h) k)) (i + 1) (take row.variables (drop (i + 1) l))
-        → out ≡ outside (book_in s h) (number_in s h l i) (drop (i + 1) l) i
-    whole_out f = f ∙ rw (same, w.vars)
-
--- ---- a step that may be taken where its body is met, by the number of its instance's refusal
-
-judge-tests : (i q : ℕ) (t₁ t₂ t₃ t₄ : Bool) → let x = need t₁ 12 i (need t₂ 13 i (need t₃ 14 q (need t₄ 15 i ok))) in number x ≡ 0 → x ≡ ok
-unfolding need
-judge-tests i q true true true true e = refl
-judge-tests i q true true true false e = absurd (let z : ⊥ = omega arith in z)
-judge-tests i q true true false t₄ e = absurd (let z : ⊥ = omega arith in z)
-judge-tests i q true false t₃ t₄ e = absurd (let z : ⊥ = omega arith in z)
-judge-tests i q false t₂ t₃ t₄ e = absurd (let z : ⊥ = omega arith in z)
-
-number-stop : (x y : Answer) → (number x ≡ 0 → ⊥) → number (and_then x y) ≡ number x
-unfolding and_then
-number-stop (done m) y n = absurd (n refl)
-number-stop (refused m i) y n = refl
-
-module _ (s : List ℕ) (h : Header) (good : read s ≡ Ok h) (l : List ℤ) (i more : ℕ) {n : ℕ} (e : n ≡ number (judge (book_in s h) (number_in s h l i) more (drop (i + 1) l) i)) where
+module _ (s : List ℕ) (h : Header) (good : read s ≡ Ok h) (l : List ℤ) (i more : ℕ) {x : Outcome} (e : x ≡ told (judge (book_in s h) (number_in s h l i) more (drop (i + 1) l) i)) where
   -- it is refused
-  pub enabled-stop : (met : Bool) → (n ≡ 0 → ⊥) → n ≡ number (judge_enabled (book_in s h) (number_in s h l i) more (drop (i + 1) l) i met)
-  unfolding judge_enabled
-  enabled-stop met z = e ∙ sym (number-stop _ _ (λ q. z (e ∙ q)))
+  pub enabled-stop : (met : Bool) {g : Refusal} {y : Outcome} → x ≡ Err g → y ≡ Err g → y ≡ told (judge_enabled (book_in s h) (number_in s h l i) more (drop (i + 1) l) i met)
+  unfolding judge_enabled and_then told
+  enabled-stop met {g} z q = rw (told-no _ g (sym e ∙ z)) q
 
-  module _ (z : n ≡ 0) where
+  module _ {m : ℕ} (z : x ≡ Ok m) where
     instance-ok : judge (book_in s h) (number_in s h l i) more (drop (i + 1) l) i ≡ ok
-    unfolding judge judge_clause
-    instance-ok = judge-tests i _ _ _ _ _ (sym e ∙ z)
+    instance-ok = told-ok _ (among-judge _ _ _ _ _) (sym e ∙ z)
 
     -- it stands there in full, with what follows it
     pub instance-room : i < length l → (number_in s h l i < h.count) × (i + 1 + (clause_at (book_in s h) (number_in s h l i)).vars + more ≤ length l)
@@ -314,10 +279,10 @@ module _ (s : List ℕ) (h : Header) (good : read s ≡ Ok h) (l : List ℤ) (i 
         let (one, room) = (judge-exact (book_in s h) (number_in s h l i) more (drop (i + 1) l) i).0 instance-ok in
         (omega (arith, one.there, count-is s h good), omega (arith, room, length-drop (i + 1) l))
 
-    pub enabled-met : (met : Bool) {r : Bool} → r ≡ met → r ≡ true → 0 ≡ number (judge_enabled (book_in s h) (number_in s h l i) more (drop (i + 1) l) i met)
-    unfolding judge_enabled and_then need
-    enabled-met met q t = rw (instance-ok, sym q ∙ t)
+    pub enabled-met : (met : Bool) {r : Bool} {y : Outcome} → r ≡ met → r ≡ true → y ≡ Ok 0 → y ≡ told (judge_enabled (book_in s h) (number_in s h l i) more (drop (i + 1) l) i met)
+    unfolding judge_enabled and_then need told
+    enabled-met met q t u = rw (instance-ok, sym q ∙ t) u
 
-    pub enabled-unmet : (met : Bool) {r : Bool} → r ≡ met → r ≡ false → 16 ≡ number (judge_enabled (book_in s h) (number_in s h l i) more (drop (i + 1) l) i met)
-    unfolding judge_enabled and_then need
-    enabled-unmet met q t = rw (instance-ok, sym q ∙ t)
+    pub enabled-unmet : (met : Bool) {r : Bool} {y : Outcome} → r ≡ met → r ≡ false → y ≡ Err (refuse 16 i) → y ≡ told (judge_enabled (book_in s h) (number_in s h l i) more (drop (i + 1) l) i met)
+    unfolding judge_enabled and_then need told
+    enabled-unmet met q t u = rw (instance-ok, sym q ∙ t) u

@@ -1,6 +1,6 @@
 -- Values of a list by where they stand: those of a step's variables from a place of the list on, its atoms' arguments from a byte of the book on.
 use Rattle.std.specs.Prelude.{ℕ, ◌+◌, ◌<◌, ◌≤◌, List, map, length, get_or, take, drop, ℤ, pos, negsuc}
-use Rattle.lists.specs.Instance.{clause_number, clause_at}
+use Rattle.lists.specs.Instance.{clause_number}
 use Rattle.book.specs.declared.Header.{Header}
 use Rattle.book.specs.Meaning.{book_in}
 
@@ -12,11 +12,6 @@ number_or n (negsuc c) = n
 -- the clause number that stands at place i of the list l
 abbrev pub number_in : List ℕ → Header → List ℤ → ℕ → ℕ
 number_in s h l i = clause_number (book_in s h) (get_or l i (pos 0))
-
--- a step by a clause of the book stands at place i with all its values
-pub record Whole (s : List ℕ) (h : Header) (l : List ℤ) (i : ℕ) : Type 0 where
-  pub there : number_in s h l i < h.count
-  pub room : i + 1 + (clause_at (book_in s h) (number_in s h l i)).vars ≤ length l
 
 -- the values of n arguments from byte p on, where the variables' values stand from place j on
 unfoldable pub values_at : List ℕ → List ℤ → ℕ → ℕ → ℕ → List ℤ

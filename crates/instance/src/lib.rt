@@ -1,18 +1,18 @@
-// One step of a list: values by where they stand, and the number of the refusal of its instance.
+// One step of a list: values by where they stand, and whether its instance holds.
 #![tactic(auto)]
 
 ghost use Rattle.std.specs.Prelude.{◌≡◌, [], ◌+◌, ◌<◌, ◌≤◌, length, get_or, take, drop, pos};
 ghost use Rattle.meaning.specs.Book.{variable_window};
-ghost use Rattle.reply.specs.Answer.{number};
+ghost use Rattle.reply.specs.Answer.{told};
 ghost use Rattle.lists.specs.Compare.{eq_z, eq_vals, inside, first_out};
 ghost use Rattle.lists.specs.Instance.{clause_number, clause_at, judge_clause, judge};
-ghost use Rattle.lists.specs.Enabled.{refusal_place};
 ghost use Rattle.book.specs.Meaning.{book_in};
 ghost use Rattle.book.specs.Held.{meant};
 ghost use Rattle.book.specs.Windows.{window_of};
-ghost use Rattle.instance.specs.Values.{number_or, number_in, Whole, values_at, Valued};
+ghost use Rattle.instance.specs.Values.{number_or, number_in, values_at, Valued};
 
 use book::{Header, Window};
+use reply::{Answer, refuse};
 use table::Table;
 
 // ---- numbers of a list
@@ -111,22 +111,23 @@ pub fn first_out(book: &[u8], h: Header, k: usize, list: &[i32], from: usize, v:
     from + v
 }
 
-// 13 to 15: the number of the refusal of the instance of clause k that begins at i, after whose values `more` numbers follow; 0 where it is one.
-pub fn judged(table: &Table, k: usize, list: &[i32], i: usize, more: usize) -> usize
+// 13 to 15: whether an instance of clause k begins at i, after whose values `more` numbers follow.
+pub fn judged(table: &Table, k: usize, list: &[i32], i: usize, more: usize) -> Answer
     requires { (k < table.now.book.header.count) × (i < length list.now) }
-    ensures { result ≡ number (judge_clause (meant table.now.book) (clause_at (meant table.now.book) k) more (drop (i + 1) list.now) i) }
+    ensures { result ≡ told (judge_clause (meant table.now.book) (clause_at (meant table.now.book) k) more (drop (i + 1) list.now) i) }
 {
     let from = i + 1;
     let row = table.row(k);
     let v = row.variables as usize;
     if list.len() - from < v {
-        return 13;
+        return refuse(13, i);
     }
     if list.len() - from - v < more {
-        return 13;
+        return refuse(13, i);
     }
-    if first_out(table.book.bytes, table.book.header, k, list, from, v) < from + v {
-        return 14;
+    let out = first_out(table.book.bytes, table.book.header, k, list, from, v);
+    if out < from + v {
+        return refuse(14, out);
     }
     if truth::truth(
         table.book.bytes,
@@ -135,35 +136,21 @@ pub fn judged(table: &Table, k: usize, list: &[i32], i: usize, more: usize) -> u
         list,
         from,
     ) {
-        0
+        Ok(0)
     } else {
-        15
+        refuse(15, i)
     }
 }
 
 // 12 to 15: the same of the step that begins at i.
-pub fn instance_at(table: &Table, list: &[i32], i: usize, more: usize) -> usize
+pub fn instance_at(table: &Table, list: &[i32], i: usize, more: usize) -> Answer
     requires { i < length list.now }
-    ensures { result ≡ number (judge (meant table.now.book) (number_in table.now.book.bytes.now table.now.book.header list.now i) more (drop (i + 1) list.now) i) }
+    ensures { result ≡ told (judge (meant table.now.book) (number_in table.now.book.bytes.now table.now.book.header list.now i) more (drop (i + 1) list.now) i) }
 {
     let count = table.book.header.count;
     let k = number_at(list, i, count);
     if count <= k {
-        return 12;
+        return refuse(12, i);
     }
     judged(table, k, list, i, more)
-}
-
-// Where the refusal with this number of the step that begins at i is: 14 at the first value outside its window, any other where the step begins.
-pub fn refusal_place(table: &Table, list: &[i32], i: usize, number: usize) -> usize
-    requires i_in_bounds { i < length list.now }
-    requires whole { number ≡ 14 → Whole table.now.book.bytes.now table.now.book.header list.now i }
-    ensures { result ≡ refusal_place (meant table.now.book) (number_in table.now.book.bytes.now table.now.book.header list.now i) (drop (i + 1) list.now) i number }
-{
-    if number == 14 {
-        let k = number_at(list, i, table.book.header.count);
-        let v = table.row(k).variables as usize;
-        return first_out(table.book.bytes, table.book.header, k, list, i + 1, v);
-    }
-    i
 }

@@ -3,7 +3,6 @@ use Prim.Native.Nat.{ℕ, ◌+◌, ◌<◌, ◌≤◌}
 use native.Mathlib.Omega.{arith}
 use mathlib.Core.Path.{◌≡◌, refl, sym, ap, ◌∙◌}
 use Rattle.std.proofs.Common.{length-set}
-use mathlib.Core.Logic.{◌≢◌, ◌⊎◌, inl, inr}
 use mathlib.Core.List.{List}
 use mathlib.Core.Bool.{Bool, true, false}
 use lib.ListN.{length, get_or, set, take, drop, replicate, length-drop}
@@ -13,13 +12,15 @@ use lib.IntN.{ℤ, pos}
 use borrow.Author.Tests.{le-leb, lt-leb}
 use Rattle.meaning.specs.Book.{Book, Fact, body, head}
 use Rattle.meaning.specs.State.{Control, State, write, flags}
+use Rattle.reply.specs.declared.Refusal.{Refusal}
+use Rattle.reply.specs.Among.{told-no, told-ok}
 use Rattle.reply.specs.Answer as reply
-use Rattle.reply.specs.Answer.{ok, number, need, and_then, refuse, told, Outcome}
+use Rattle.reply.specs.Answer.{ok, need, and_then, refuse, told, Outcome}
 use Rattle.lists.specs.Compare.{eq_vals, first_diff}
 use Rattle.lists.specs.Instance.{clause_number, clause_at, step_at, judge}
 use Rattle.lists.specs.Trace.{size, state_numbers, has, meets, judge_move, first_of}
 use Rattle.lists.specs.Laws.{enabled-exact}
-use Rattle.lists.specs.Enabled.{refusal_place, enabled-number, enabled-zero, enabled-refused}
+use Rattle.lists.specs.Among.{among-enabled}
 use Rattle.lists.specs.Due.{walk_due, walk-due-none}
 use Rattle.lists.proofs.Due.{walk-due-more}
 use Rattle.cursor.proofs.Laws.{via}
@@ -30,8 +31,8 @@ use Rattle.book.specs.Joined.{count-is}
 use Rattle.book.specs.Arities.{relations-are}
 use Rattle.table.specs.declared.Row.{Row}
 use Rattle.table.specs.Table.{IsRow}
-use Rattle.instance.specs.Values.{number_or, number_in, Whole}
-use Rattle.instance.proofs.Laws.{number_is, values_length, out-whole, enabled-stop, enabled-met, enabled-unmet, instance-room}
+use Rattle.instance.specs.Values.{number_or, number_in}
+use Rattle.instance.proofs.Laws.{number_is, values_length, enabled-stop, enabled-met, enabled-unmet, instance-room}
 use Rattle.instance.proofs.Atoms.{head_at, head-there}
 use Rattle.asked.proofs.Judge.{need-yes, need-no, ends-well}
 use Rattle.state.specs.declared.State as code
@@ -54,6 +55,12 @@ module _ (b : Book) (C : Control) (σ : State C) (f : Fact) (n : ℕ) {x : Outco
   unfolding ends
   end-missed p q e = need-no 17 n _ _ p q e
 
+-- ---- a step that is taken
+
+enabled_ok : (b : Book) (C : Control) (k : ℕ) (l : List ℤ) (i : ℕ) (σ : State C) {m : ℕ} → told (enabled b C k l i σ) ≡ Ok m → enabled b C k l i σ ≡ ok
+unfolding enabled
+enabled_ok b C k l i σ e = told-ok _ (among-enabled _ _ _ _ _ _) e
+
 -- ---- what is due from a place on
 
 module _ (b : Book) (C : Control) (f : Fact) (l : List ℤ) (i : ℕ) (σ : State C) where
@@ -75,20 +82,18 @@ module _ (b : Book) (C : Control) (f : Fact) (l : List ℤ) (i : ℕ) (σ : Stat
   unfolding judge_move enabled next_state
   two-parts at e = rw (drop-drop (clause_at b clause).vars (i + 1) l, e)
 
-  module _ (lt : i < length l) {n : ℕ} (judged : n ≡ number (enabled b C clause rest i σ)) where
+  module _ (lt : i < length l) {y : Outcome} (judged : y ≡ told (enabled b C clause rest i σ)) where
     -- the step is refused
-    pub due-stop : {x : Outcome} → n ≢ 0 → x ≡ Err (refuse n (refusal_place b clause rest i n)) → x ≡ told (walk_due b C f l i σ)
-    unfolding enabled and_then told
-    due-stop stop e =
-        rw (walk-due-more b C f l i σ lt, two-parts _ refl, enabled-refused b clause (size b C) rest i (meets b C (body b (step_at b clause rest)) σ) n (sym judged) stop) e
+    pub due-stop : {v : Refusal} {x : Outcome} → y ≡ Err v → x ≡ Err v → x ≡ told (walk_due b C f l i σ)
+    unfolding and_then told
+    due-stop {v} stop e = rw (walk-due-more b C f l i σ lt, two-parts _ refl, told-no _ v (sym judged ∙ stop)) e
 
     -- it is not, and the next state τ stands at place j
-    module _ (none : n ≡ 0) (τ : State C) (moved : τ ≡ write C (head b (step_at b clause rest)) σ) {j : ℕ} (at : j ≡ i + 1 + (clause_at b clause).vars)
+    module _ {m : ℕ} (none : y ≡ Ok m) (τ : State C) (moved : τ ≡ write C (head b (step_at b clause rest)) σ) {j : ℕ} (at : j ≡ i + 1 + (clause_at b clause).vars)
         (many : length (state_numbers b C τ) ≡ size b C) (fits : j + size b C ≤ length l) {d : ℕ} (q : d ≡ first_diff j (drop j l) (state_numbers b C τ)) where
       opened : walk_due b C f l i σ ≡ and_then (next_state b C l j τ) (walk_due b C f l (j + size b C) τ)
-      unfolding and_then enabled
-      opened =
-          rw (walk-due-more b C f l i σ lt, two-parts j at, enabled-zero b clause (size b C) rest i (meets b C (body b (step_at b clause rest)) σ) (sym judged ∙ none), moved, at)
+      unfolding and_then
+      opened = rw (walk-due-more b C f l i σ lt, two-parts j at, enabled_ok b C clause rest i σ (sym judged ∙ none), moved, at)
 
       compared : leb (j + size b C) d ≡ eq_vals (take (size b C) (drop j l)) (state_numbers b C τ)
       compared = rw (q, ← many) (diff-all j (drop j l) (state_numbers b C τ) (rw length-drop (omega (arith, many))))
@@ -113,15 +118,15 @@ module _ (s : List ℕ) (h : Header) (good : read s ≡ Ok h) (l : List ℤ) (i 
   abbrev met_here : Bool
   met_here = meets b flags (body b (step_at b number_here (drop (i + 1) l))) (held b σ)
 
-  abbrev judged_step : ℕ
-  judged_step = number (enabled b flags number_here (drop (i + 1) l) i (held b σ))
+  abbrev judged_step : reply.Answer
+  judged_step = enabled b flags number_here (drop (i + 1) l) i (held b σ)
 
-  module _ {n : ℕ} (e : n ≡ number (judge b number_here more (drop (i + 1) l) i)) where
-    pub step-stop : (n ≡ 0 → ⊥) → n ≡ judged_step
+  module _ {y : Outcome} (e : y ≡ told (judge b number_here more (drop (i + 1) l) i)) where
+    pub step-stop : {v : Refusal} {x : Outcome} → y ≡ Err v → x ≡ Err v → x ≡ told judged_step
     unfolding enabled
-    step-stop stop = rw (← z.is) (enabled-stop s h good l i more e met_here stop)
+    step-stop stop u = rw (← z.is) (enabled-stop s h good l i more e met_here stop u)
 
-    module _ (none : n ≡ 0) {k : ℕ} (q : k ≡ number_or h.count (get_or l i (pos 0))) where
+    module _ {m : ℕ} (none : y ≡ Ok m) {k : ℕ} (q : k ≡ number_or h.count (get_or l i (pos 0))) where
       same : number_here ≡ k
       same = number_is s h good l i q
 
@@ -129,41 +134,28 @@ module _ (s : List ℕ) (h : Header) (good : read s ≡ Ok h) (l : List ℤ) (i 
       pub step-there : (k < h.count) × (i + 1 + (clause_at b k).vars ≤ length l)
       step-there = let (x, y) = instance-room s h good l i more e none lt in (rw same at x, omega (arith, rw same at y))
 
-      module _ {r : Bool} (m : r ≡ meets b flags (body b (step_at b k (drop (i + 1) l))) (held b σ)) where
+      module _ {r : Bool} (p : r ≡ meets b flags (body b (step_at b k (drop (i + 1) l))) (held b σ)) where
         at-number : r ≡ met_here
-        at-number = rw same m
+        at-number = rw same p
 
-        pub step-met : r ≡ true → 0 ≡ judged_step
+        pub step-met : {x : Outcome} → r ≡ true → x ≡ Ok 0 → x ≡ told judged_step
         unfolding enabled
-        step-met y = rw (← z.is) (enabled-met s h good l i more e none met_here at-number y)
+        step-met u v = rw (← z.is) (enabled-met s h good l i more e none met_here at-number u v)
 
-        pub step-unmet : r ≡ false → 16 ≡ judged_step
+        pub step-unmet : {x : Outcome} → r ≡ false → x ≡ Err (refuse 16 i) → x ≡ told judged_step
         unfolding enabled
-        step-unmet y = rw (← z.is) (enabled-unmet s h good l i more e none met_here at-number y)
+        step-unmet u v = rw (← z.is) (enabled-unmet s h good l i more e none met_here at-number u v)
 
   -- ---- after it
 
-  module _ {n : ℕ} (e : n ≡ judged_step) where
-    pub stop-small : n < 256
-    unfolding enabled
-    stop-small = go (enabled-number b number_here (size b flags) (drop (i + 1) l) i met_here)
-      where
-        go : (judged_step ≡ 0) ⊎ ((12 ≤ judged_step) × (judged_step ≤ 16)) → n < 256
-        go (inl y) = omega arith
-        go (inr y) = omega arith
-
-    pub stop-whole : n ≡ 14 → Whole s h l i
-    unfolding enabled
-    stop-whole y = out-whole s h l i (size b flags) met_here good lt (sym e ∙ y)
-
+  module _ {y : Outcome} (e : y ≡ told judged_step) where
     -- it may be taken, and the code goes on with the state τ, in which its head is put
-    module _ (none : n ≡ 0) {k : ℕ} (q : k ≡ number_or h.count (get_or l i (pos 0))) where
+    module _ {m : ℕ} (none : y ≡ Ok m) {k : ℕ} (q : k ≡ number_or h.count (get_or l i (pos 0))) where
       here : number_here ≡ k
       here = number_is s h good l i q
 
-      judged-ok : enabled b flags number_here (drop (i + 1) l) i (held b σ) ≡ ok
-      unfolding enabled
-      judged-ok = enabled-zero b number_here (size b flags) (drop (i + 1) l) i met_here (sym e ∙ none)
+      judged-ok : judged_step ≡ ok
+      judged-ok = enabled_ok b flags number_here (drop (i + 1) l) i (held b σ) (sym e ∙ none)
 
       pub on_stands : (k < h.count) × (i + 1 + (clause_at b k).vars + more ≤ length l)
       unfolding enabled
@@ -228,13 +220,13 @@ module _ (s : List ℕ) (h : Header) (good : read s ≡ Ok h) (f : Fact) (l : Li
     pub going-missed : {x : Outcome} {r : Bool} → length l ≤ i → r ≡ has system flags f (held system σ) → r ≡ false → x ≡ Err (refuse 17 (length l)) → x ≡ told whole_walk
     going-missed stop p q e = via g.due (due-end system flags f l i _ g.there stop (end-missed system flags _ f _ p q e))
 
-    module _ (lt : i < length l) {n : ℕ} (e : n ≡ number (enabled system flags (number_in s h l i) (drop (i + 1) l) i (held system σ))) where
+    module _ (lt : i < length l) {v : Outcome} (e : v ≡ told (enabled system flags (number_in s h l i) (drop (i + 1) l) i (held system σ))) where
       -- a step is refused
-      pub going-stop : {x : Outcome} {p : ℕ} → n ≢ 0 → p ≡ refusal_place system (number_in s h l i) (drop (i + 1) l) i n → x ≡ Err (refuse n p) → x ≡ told whole_walk
-      going-stop stop at q = via g.due (due-stop system flags f l i _ lt e stop (q ∙ ap (λ (m : ℕ). Err (refuse n m)) at))
+      pub going-stop : {u : Refusal} {x : Outcome} → v ≡ Err u → x ≡ Err u → x ≡ told whole_walk
+      going-stop stop q = via g.due (due-stop system flags f l i _ lt e stop q)
 
       -- a step is taken, by clause k: its head is put into the state, and the next state is due
-      module _ (none : n ≡ 0) {k : ℕ} (q : k ≡ number_or h.count (get_or l i (pos 0))) {row : Row} (w : IsRow s h k row)
+      module _ {m : ℕ} (none : v ≡ Ok m) {k : ℕ} (q : k ≡ number_or h.count (get_or l i (pos 0))) {row : Row} (w : IsRow s h k row)
           {τ : code.State} (a : τ.flags ≡ set σ.flags (head system (step_at system k (drop (i + 1) l))).rel true) (b : τ.rows ≡ row_put (head system (step_at system k (drop (i + 1) l))) σ.rows)
           {d : ℕ} (y : d ≡ first_diff (i + 1 + row.variables) (drop (i + 1 + row.variables) l) (state_numbers system flags (held system τ))) where
         moved : held system τ ≡ write flags (head system (step_at system (number_in s h l i) (drop (i + 1) l))) (held system σ)

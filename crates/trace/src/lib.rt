@@ -10,7 +10,7 @@ ghost use Rattle.state.specs.State.{Sized};
 ghost use Rattle.trace.specs.Answer.{answer};
 
 use book::Book;
-use reply::refuse;
+use reply::{Answer, refuse};
 use state::State;
 use table::Table;
 
@@ -32,13 +32,12 @@ impl<'a> Claim<'a> {
     ghost use Rattle.lists.specs.Derivation.{goal};
     ghost use Rattle.lists.specs.Trace.{judge_first, first_of};
     ghost use Rattle.lists.specs.Due.{walk_due};
-    ghost use Rattle.reply.specs.Answer.{number};
     ghost use Rattle.instance.specs.Values.{number_in};
     ghost use Rattle.state.specs.State.{held};
     ghost use Rattle.trace.specs.Step.{enabled};
 
     // 13, 18, 14: the first state
-    fn judged_first(&self) -> reply::Answer
+    fn judged_first(&self) -> Answer
         ensures { result ≡ told (judge_first (meant self.now.table.now.book) flags self.now.list.now) }
     {
         if self.list.len() < self.size {
@@ -57,25 +56,22 @@ impl<'a> Claim<'a> {
         }
     }
 
-    // 12 to 16: the number of the refusal of the step that begins at i in this state; 0 for none
-    fn step_at(&self, i: usize, state: &State) -> usize
+    // 12 to 16: whether a step may begin at i in this state
+    fn step_at(&self, i: usize, state: &State) -> Answer
         requires { i < length self.now.list.now }
-        ensures { result ≡ number (enabled (meant self.now.table.now.book) flags (number_in self.now.table.now.book.bytes.now self.now.table.now.book.header self.now.list.now i) (drop (i + 1) self.now.list.now) i (held (meant self.now.table.now.book) state.now)) }
+        ensures { result ≡ told (enabled (meant self.now.table.now.book) flags (number_in self.now.table.now.book.bytes.now self.now.table.now.book.header self.now.list.now i) (drop (i + 1) self.now.list.now) i (held (meant self.now.table.now.book) state.now)) }
     {
-        let n = instance::instance_at(self.table, self.list, i, self.size);
-        if n != 0 {
-            return n;
-        }
+        instance::instance_at(self.table, self.list, i, self.size)?;
         let k = instance::number_at(self.list, i, self.table.book.header.count);
         if state.meets(self.table, k, self.list, i + 1) {
-            0
+            Ok(0)
         } else {
-            16
+            refuse(16, i)
         }
     }
 
     // the steps of the list from its first state on, then 17, the goal; one row is replaced at each step
-    fn walk(&self) -> reply::Answer
+    fn walk(&self) -> Answer
         requires { self.now.size ≤ length self.now.list.now }
         ensures { result ≡ told (walk_due (meant self.now.table.now.book) flags (goal self.now.relation self.now.values.now) self.now.list.now self.now.size (first_of (meant self.now.table.now.book) flags self.now.list.now)) }
     {
@@ -83,13 +79,7 @@ impl<'a> Claim<'a> {
         let mut state = State::first(book, self.list, book.relations());
         let mut i = self.size;
         while i < self.list.len() {
-            let n = self.step_at(i, &state);
-            if n != 0 {
-                return refuse(
-                    n as u8,
-                    instance::refusal_place(self.table, self.list, i, n),
-                );
-            }
+            self.step_at(i, &state)?;
             let k = instance::number_at(self.list, i, book.header.count);
             let row = self.table.row(k);
             state.put(self.table, k, self.list, i + 1);
@@ -109,7 +99,7 @@ impl<'a> Claim<'a> {
 }
 
 // 10 to 19: whether a list is a trace that reaches the goal in the system of a book that was read
-pub fn check_in(table: &Table, list: &[i32], relation: usize, values: &[i32]) -> reply::Answer
+pub fn check_in(table: &Table, list: &[i32], relation: usize, values: &[i32]) -> Answer
     ensures { result ≡ told (check_trace (meant table.now.book) flags relation values.now list.now) }
 {
     asked::judged_goal(&table.book, relation, values)?;
@@ -126,7 +116,7 @@ pub fn check_in(table: &Table, list: &[i32], relation: usize, values: &[i32]) ->
 }
 
 // Whether a list is a trace that reaches the goal, a relation and its values, in the system of the book that the bytes hold: the answer for any input.
-pub fn check(book: &[u8], list: &[i32], relation: usize, values: &[i32]) -> reply::Answer
+pub fn check(book: &[u8], list: &[i32], relation: usize, values: &[i32]) -> Answer
     ensures { Answers (answer book.now list.now relation values.now) result }
 {
     let book = Book::open(book)?;

@@ -3,7 +3,8 @@ use Rattle.lists.specs.Derivation.{goal}
 use Rattle.lists.specs.Instance.{clause_at}
 use Rattle.book.specs.Held.{meant}
 use Rattle.state.proofs.Shape.{size_is}
-use Rattle.trace.proofs.Laws.{stop-small, stop-whole, on_stands, on_fits, going_start, going_done, going-missed, going-stop, going-differs, going_on}
+use Rattle.asked.proofs.Judge.{handed}
+use Rattle.trace.proofs.Laws.{on_stands, on_fits, going_start, going_done, going-missed, going-stop, going-differs, going_on}
 use Rattle.trace.proofs.Claim.walk.Goals.{After-number_at-k}
 use Rattle.trace.proofs.Claim.walk.Goals as goals
 
@@ -18,28 +19,18 @@ loop-i-init c =
     going_start _ _ t.table.now.book.accepted (goal t.relation t.values.now) t.list.now t.sized c.relations.ensures c.requires
     c.first-state.ensures.flags c.first-state.ensures.rows
 
-pub overflow_cast-n : goals.overflow_cast-n
-overflow_cast-n c =
+pub returns-in_err-step_at : goals.returns-in_err-step_at
+returns-in_err-step_at c =
     let t = c.args.self.now in
-    record { fits = stop-small _ _ t.table.now.book.accepted t.list.now _ t.sized c.loop-i-test.true _ c.step_at-n.ensures }
-
-pub refusal_place-requires-clause-whole : goals.refusal_place-requires-clause-whole
-refusal_place-requires-clause-whole c =
-    let t = c.args.self.now in
-    stop-whole _ _ t.table.now.book.accepted t.list.now _ t.sized c.loop-i-test.true _ c.step_at-n.ensures
-
-pub returns-then-n-ne0 : goals.returns-then-n-ne0
-returns-then-n-ne0 c =
-    let t = c.args.self.now in
-    going-stop _ _ t.table.now.book.accepted _ t.list.now t.sized c.loop-i.invariant c.loop-i-test.true c.step_at-n.ensures
-    c.if-n-ne0.true c.refusal_place.ensures c.refuse.ensures
+    going-stop _ _ t.table.now.book.accepted _ t.list.now t.sized c.loop-i.invariant c.loop-i-test.true c.step_at.ensures
+    c.in_err-step_at.was (handed _ c.from_residual.ensures)
 
 -- the step is taken by clause k: it is there, and so is its next state
 stands : (c : After-number_at-k) → (c.number_at-k.result < c.args.self.now.table.now.book.header.count)
     × (c.loop-i.i + 1 + (clause_at (meant c.args.self.now.table.now.book) c.number_at-k.result).vars + c.args.self.now.size ≤ length c.args.self.now.list.now)
 stands c =
     let t = c.args.self.now in
-    on_stands _ _ t.table.now.book.accepted t.list.now _ t.sized c.loop-i-test.true _ c.step_at-n.ensures c.if-n-ne0.false c.number_at-k.ensures
+    on_stands _ _ t.table.now.book.accepted t.list.now _ t.sized c.loop-i-test.true _ c.step_at.ensures c.in_ok-step_at.was c.number_at-k.ensures
 
 pub put-requires : goals.put-requires
 put-requires c = let w = stands (goals.at.put-requires c).After-number_at-k in (w.0, omega (arith, w.1))
@@ -50,20 +41,20 @@ row-row-requires c = (stands (goals.at.row-row-requires c).After-number_at-k).0
 pub differs-d-requires : goals.differs-d-requires
 differs-d-requires c =
     let t = c.args.self.now in
-    let w = on_fits _ _ t.table.now.book.accepted t.list.now _ t.sized c.loop-i-test.true _ c.step_at-n.ensures c.if-n-ne0.false c.number_at-k.ensures c.row-row.ensures in
+    let w = on_fits _ _ t.table.now.book.accepted t.list.now _ t.sized c.loop-i-test.true _ c.step_at.ensures c.in_ok-step_at.was c.number_at-k.ensures c.row-row.ensures in
     omega (arith, w, t.sized.is)
 
 pub returns-then-d-at : goals.returns-then-d-at
 returns-then-d-at c =
     let t = c.args.self.now in
-    going-differs _ _ t.table.now.book.accepted _ t.list.now t.sized c.loop-i.invariant c.loop-i-test.true c.step_at-n.ensures
-    c.if-n-ne0.false c.number_at-k.ensures c.row-row.ensures c.put.ensures.flags c.put.ensures.rows c.differs-d.ensures c.if-d-at.true c.refuse-then-d-at.ensures
+    going-differs _ _ t.table.now.book.accepted _ t.list.now t.sized c.loop-i.invariant c.loop-i-test.true c.step_at.ensures
+    c.in_ok-step_at.was c.number_at-k.ensures c.row-row.ensures c.put.ensures.flags c.put.ensures.rows c.differs-d.ensures c.if-d-at.true c.refuse.ensures
 
 pub loop-i-preserved : goals.loop-i-preserved
 loop-i-preserved c =
     let t = c.args.self.now in
-    going_on _ _ t.table.now.book.accepted _ t.list.now t.sized c.loop-i.invariant c.loop-i-test.true c.step_at-n.ensures
-    c.if-n-ne0.false c.number_at-k.ensures c.row-row.ensures c.put.ensures.flags c.put.ensures.rows c.differs-d.ensures c.if-d-at.false
+    going_on _ _ t.table.now.book.accepted _ t.list.now t.sized c.loop-i.invariant c.loop-i-test.true c.step_at.ensures
+    c.in_ok-step_at.was c.number_at-k.ensures c.row-row.ensures c.put.ensures.flags c.put.ensures.rows c.differs-d.ensures c.if-d-at.false
 
 pub returns-then-holds : goals.returns-then-holds
 returns-then-holds c =
