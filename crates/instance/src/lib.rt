@@ -111,7 +111,9 @@ pub fn first_out(book: &[u8], h: Header, k: usize, list: &[i32], from: usize, v:
     from + v
 }
 
-// 13 to 15: whether an instance of clause k begins at i, after whose values `more` numbers follow.
+// 13 to 15: whether an instance of clause k begins at i, after whose values `more` numbers follow. Both are inlined, so that no answer is handed
+// over in memory at each step: without that the check of a derivation took half as long again at constraints of one node (measured).
+#[inline(always)]
 pub fn judged(table: &Table, k: usize, list: &[i32], i: usize, more: usize) -> Answer
     requires { (k < table.now.book.header.count) × (i < length list.now) }
     ensures { result ≡ told (judge_clause (meant table.now.book) (clause_at (meant table.now.book) k) more (drop (i + 1) list.now) i) }
@@ -143,6 +145,7 @@ pub fn judged(table: &Table, k: usize, list: &[i32], i: usize, more: usize) -> A
 }
 
 // 12 to 15: the same of the step that begins at i.
+#[inline(always)]
 pub fn instance_at(table: &Table, list: &[i32], i: usize, more: usize) -> Answer
     requires { i < length list.now }
     ensures { result ≡ told (judge (meant table.now.book) (number_in table.now.book.bytes.now table.now.book.header list.now i) more (drop (i + 1) list.now) i) }
