@@ -1,16 +1,11 @@
 // The derivation check: whether a list of numbers is a derivation of a goal in a clause book.
 #![tactic(auto)]
 
-ghost use Rattle.std.specs.Prelude.{◌≡◌, ◌+◌, ◌<◌, ◌≤◌, length, get_or, drop, IfSome};
-ghost use Rattle.std.proofs.Math.Option.{some};
-ghost use Rattle.meaning.specs.Book.{body};
+ghost use Rattle.std.specs.Prelude.{◌≡◌, length, get_or};
 ghost use Rattle.reply.specs.Answer.{told, Answers};
-ghost use Rattle.lists.specs.Compare.{same};
-ghost use Rattle.lists.specs.Derivation.{judge_step, check as check_list, check_derivation, goal};
+ghost use Rattle.lists.specs.Derivation.{check_derivation};
 ghost use Rattle.lists.specs.Convert.{derivation_steps};
 ghost use Rattle.book.specs.Held.{meant};
-ghost use Rattle.instance.specs.Values.{number_in};
-ghost use Rattle.derivation.specs.Step.{step_of, fact_after, Stands};
 ghost use Rattle.derivation.specs.Answer.{counted, answer};
 
 use book::Book;
@@ -24,95 +19,116 @@ pub struct Step {
     since: usize,
 }
 
-// Whether the body of a step is the head of the one before it, if there is one.
-fn met(table: &Table, list: &[i32], step: Step, last: Option<Step>) -> bool
-    requires step { Stands (meant table.now.book) list.now step }
-    requires last { IfSome last (λ x. Stands (meant table.now.book) list.now x) }
-    ensures { result ≡ same (body (meant table.now.book) (step_of (meant table.now.book) list.now step)) (fact_after (meant table.now.book) list.now last) }
-{
-    let row = table.row(step.clause);
-    let Some(before) = last else {
-        return row.body.is_none();
-    };
-    let Some(body) = row.body else {
-        return false;
-    };
-    let earlier = table.row(before.clause).head;
-    if body.relation != earlier.relation {
-        return false;
-    }
-    instance::same_values(
-        table.book.bytes,
-        list,
-        body.at as usize,
-        step.since,
-        earlier.at as usize,
-        before.since,
-        body.many as usize,
-    )
+// A list that is judged, with the table of its book and the goal, a relation with its values.
+#[derive(Clone, Copy)]
+struct Claim<'a> {
+    table: &'a Table<'a>,
+    list: &'a [i32],
+    relation: usize,
+    values: &'a [i32],
+    ghost values_len: { length values.now ≡ get_or (meant table.now.book).arities relation 0 },
 }
 
-// 12 to 16: whether a step may begin at i, after the step `last`, if there is one
-fn step_at(table: &Table, list: &[i32], i: usize, last: Option<Step>) -> Answer
-    requires i_in_bounds { i < length list.now }
-    requires last { IfSome last (λ x. Stands (meant table.now.book) list.now x) }
-    ensures { result ≡ told (judge_step (meant table.now.book) (number_in table.now.book.bytes.now table.now.book.header list.now i) (drop (i + 1) list.now) i (fact_after (meant table.now.book) list.now last)) }
-{
-    instance::instance_at(table, list, i, 0)?;
-    let step = Step {
-        clause: instance::number_at(list, i, table.book.header.count),
-        since: i + 1,
-    };
-    if met(table, list, step, last) {
-        Ok(0)
-    } else {
-        refuse(16, i)
-    }
-}
+impl<'a> Claim<'a> {
+    ghost use Rattle.std.specs.Prelude.{◌+◌, ◌<◌, drop, IfSome};
+    ghost use Rattle.std.proofs.Math.Option.{some};
+    ghost use Rattle.meaning.specs.Book.{body};
+    ghost use Rattle.lists.specs.Compare.{same};
+    ghost use Rattle.lists.specs.Derivation.{judge_step, check as check_list, goal};
+    ghost use Rattle.instance.specs.Values.{number_in};
+    ghost use Rattle.derivation.specs.Step.{step_of, fact_after, Stands};
 
-// whether the head of the last step is the goal
-fn ended(table: &Table, list: &[i32], last: Option<Step>, relation: usize, values: &[i32]) -> bool
-    requires last { IfSome last (λ x. Stands (meant table.now.book) list.now x) }
-    requires values_len { length values.now ≡ get_or (meant table.now.book).arities relation 0 }
-    ensures { result ≡ same (fact_after (meant table.now.book) list.now last) (some (goal relation values.now)) }
-{
-    let Some(step) = last else {
-        return false;
-    };
-    let head = table.row(step.clause).head;
-    if head.relation as usize != relation {
-        return false;
+    // whether the body of a step is the head of the one before it, if there is one
+    fn met(&self, step: Step, last: Option<Step>) -> bool
+        requires step { Stands (meant self.now.table.now.book) self.now.list.now step }
+        requires last { IfSome last (λ x. Stands (meant self.now.table.now.book) self.now.list.now x) }
+        ensures { result ≡ same (body (meant self.now.table.now.book) (step_of (meant self.now.table.now.book) self.now.list.now step)) (fact_after (meant self.now.table.now.book) self.now.list.now last) }
+    {
+        let table = self.table;
+        let row = table.row(step.clause);
+        let Some(before) = last else {
+            return row.body.is_none();
+        };
+        let Some(body) = row.body else {
+            return false;
+        };
+        let earlier = table.row(before.clause).head;
+        if body.relation != earlier.relation {
+            return false;
+        }
+        instance::same_values(
+            table.book.bytes,
+            self.list,
+            body.at as usize,
+            step.since,
+            earlier.at as usize,
+            before.since,
+            body.many as usize,
+        )
     }
-    instance::values_are(
-        table.book.bytes,
-        list,
-        head.at as usize,
-        step.since,
-        values.len(),
-        values,
-    )
-}
 
-// the steps of the list, then the goal; done with how many steps there are
-fn walk(table: &Table, list: &[i32], relation: usize, values: &[i32]) -> Answer
-    requires { length values.now ≡ get_or (meant table.now.book).arities relation 0 }
-    ensures { result ≡ told (counted (check_list (meant table.now.book) (goal relation values.now) list.now) (length (derivation_steps (meant table.now.book) list.now))) }
-{
-    let mut i = 0;
-    let mut last = None;
-    let mut steps = 0;
-    while i < list.len() {
-        step_at(table, list, i, last)?;
-        let clause = instance::number_at(list, i, table.book.header.count);
-        let since = i + 1;
-        last = Some(Step { clause, since });
-        i = since + table.row(clause).variables as usize;
-        steps += 1;
+    // 12 to 16: whether a step may begin at i, after the step `last`, if there is one
+    fn step_at(&self, i: usize, last: Option<Step>) -> Answer
+        requires i_in_bounds { i < length self.now.list.now }
+        requires last { IfSome last (λ x. Stands (meant self.now.table.now.book) self.now.list.now x) }
+        ensures { result ≡ told (judge_step (meant self.now.table.now.book) (number_in self.now.table.now.book.bytes.now self.now.table.now.book.header self.now.list.now i) (drop (i + 1) self.now.list.now) i (fact_after (meant self.now.table.now.book) self.now.list.now last)) }
+    {
+        instance::instance_at(self.table, self.list, i, 0)?;
+        let step = Step {
+            clause: instance::number_at(self.list, i, self.table.book.header.count),
+            since: i + 1,
+        };
+        if self.met(step, last) {
+            Ok(0)
+        } else {
+            refuse(16, i)
+        }
     }
-    if ended(table, list, last, relation, values) {
-        Ok(steps)
-    } else {
-        refuse(17, list.len())
+
+    // whether the head of the last step is the goal
+    fn ended(&self, last: Option<Step>) -> bool
+        requires last { IfSome last (λ x. Stands (meant self.now.table.now.book) self.now.list.now x) }
+        ensures { result ≡ same (fact_after (meant self.now.table.now.book) self.now.list.now last) (some (goal self.now.relation self.now.values.now)) }
+    {
+        let table = self.table;
+        let Some(step) = last else {
+            return false;
+        };
+        let head = table.row(step.clause).head;
+        if head.relation as usize != self.relation {
+            return false;
+        }
+        instance::values_are(
+            table.book.bytes,
+            self.list,
+            head.at as usize,
+            step.since,
+            self.values.len(),
+            self.values,
+        )
+    }
+
+    // the steps of the list, then the goal; done with how many steps there are
+    fn walk(&self) -> Answer
+        ensures { result ≡ told (counted (check_list (meant self.now.table.now.book) (goal self.now.relation self.now.values.now) self.now.list.now) (length (derivation_steps (meant self.now.table.now.book) self.now.list.now))) }
+    {
+        let table = self.table;
+        let mut i = 0;
+        let mut last = None;
+        let mut steps = 0;
+        while i < self.list.len() {
+            self.step_at(i, last)?;
+            let clause = instance::number_at(self.list, i, table.book.header.count);
+            let since = i + 1;
+            last = Some(Step { clause, since });
+            i = since + table.row(clause).variables as usize;
+            steps += 1;
+        }
+        if self.ended(last) {
+            Ok(steps)
+        } else {
+            refuse(17, self.list.len())
+        }
     }
 }
 
@@ -122,7 +138,13 @@ pub fn check_in(table: &Table, list: &[i32], relation: usize, values: &[i32]) ->
 {
     asked::judged_goal(&table.book, relation, values)?;
     asked::judged_length(list)?;
-    walk(table, list, relation, values)
+    let claim = Claim {
+        table,
+        list,
+        relation,
+        values,
+    };
+    claim.walk()
 }
 
 // Whether a list is a derivation of the goal, a relation and its values, in the book that the bytes hold: the answer for any input.

@@ -13,8 +13,8 @@ returns-in_err-judged_length c =
     counted-on _ _ _ c.judged_goal.ensures c.in_ok-judged_goal.was
     (counted_stop _ _ _ c.judged_length.ensures c.in_err-judged_length.was (handed _ c.from_residual-in_err-judged_length.ensures))
 
-pub walk-requires : goal.walk-requires
-walk-requires c = goal-full _ _ _ c.judged_goal.ensures c.in_ok-judged_goal.was
+pub invariant_of-claim : goal.invariant_of-claim
+invariant_of-claim c = record { values_len = goal-full _ _ _ c.judged_goal.ensures c.in_ok-judged_goal.was }
 
 pub returns : goal.returns
 unfolding check_derivation

@@ -2,34 +2,34 @@ use Rattle.lists.specs.Derivation.{goal}
 use Rattle.asked.proofs.Judge.{handed}
 use Rattle.derivation.proofs.Laws.{going_start, going_done, going-missed, going-stop, going-below, going_on}
 use Rattle.std.proofs.Common.{refl}
-use Rattle.derivation.proofs.walk.Goals as goals
+use Rattle.derivation.proofs.Claim.walk.Goals as goals
 
 pub loop-i-init : goals.loop-i-init
-loop-i-init c = going_start _ _ c.args.table.now.book.accepted (goal c.args.relation c.args.values.now) c.args.list.now
+loop-i-init c = going_start _ _ c.args.self.now.table.now.book.accepted (goal c.args.self.now.relation c.args.self.now.values.now) c.args.self.now.list.now
 
 pub step_at-requires : goals.step_at-requires
 step_at-requires c = record { i_in_bounds = c.loop-i-test.true; last = c.loop-i.invariant.stands }
 
 pub returns-in_err-step_at : goals.returns-in_err-step_at
 returns-in_err-step_at c =
-    going-stop _ _ c.args.table.now.book.accepted _ c.args.list.now c.loop-i.invariant c.loop-i-test.true c.step_at.ensures
+    going-stop _ _ c.args.self.now.table.now.book.accepted _ c.args.self.now.list.now c.loop-i.invariant c.loop-i-test.true c.step_at.ensures
     c.in_err-step_at.was (handed _ c.from_residual.ensures)
 
 pub row-requires : goals.row-requires
 row-requires c =
-    going-below _ _ c.args.table.now.book.accepted _ c.args.list.now c.loop-i.invariant c.loop-i-test.true c.step_at.ensures
+    going-below _ _ c.args.self.now.table.now.book.accepted _ c.args.self.now.list.now c.loop-i.invariant c.loop-i-test.true c.step_at.ensures
     c.in_ok-step_at.was c.number_at-clause.ensures
 
 pub loop-i-preserved : goals.loop-i-preserved
 loop-i-preserved c =
-    going_on _ _ c.args.table.now.book.accepted _ c.args.list.now c.loop-i.invariant c.loop-i-test.true c.step_at.ensures
+    going_on _ _ c.args.self.now.table.now.book.accepted _ c.args.self.now.list.now c.loop-i.invariant c.loop-i-test.true c.step_at.ensures
     c.in_ok-step_at.was c.number_at-clause.ensures c.row.ensures
 
 pub returns-then-ended : goals.returns-then-ended
 returns-then-ended c =
-    going_done _ _ c.args.table.now.book.accepted _ c.args.list.now c.loop-i.invariant c.loop-i-test.false c.ended.ensures c.if-ended.true refl
+    going_done _ _ c.args.self.now.table.now.book.accepted _ c.args.self.now.list.now c.loop-i.invariant c.loop-i-test.false c.ended.ensures c.if-ended.true refl
 
 pub returns-else-ended : goals.returns-else-ended
 returns-else-ended c =
-    going-missed _ _ c.args.table.now.book.accepted _ c.args.list.now c.loop-i.invariant c.loop-i-test.false c.ended.ensures
+    going-missed _ _ c.args.self.now.table.now.book.accepted _ c.args.self.now.list.now c.loop-i.invariant c.loop-i-test.false c.ended.ensures
     c.if-ended.false c.refuse.ensures
