@@ -95,6 +95,7 @@ impl<'a> Trace<'a> {
         let mut counts = [0usize; 16];
         let mut i = self.size;
         let mut k = 0;
+        // steps differ in length, and an iterator over them would be longer than this
         while i < self.list.len() {
             keep(marks, k, i);
             let row = self.row_at(i);

@@ -37,5 +37,3 @@ module _ {A : Type 0} (s : List ℕ) (f : Book → Due A) (d : List A) {x : Outc
 
   pub room-on : {h : Header} {e : List A} → read s ≡ Ok h → Leaves (f (book_in s h)) x e → Leaves (on_book s (kept d) f) x e
   room-on p w = rw (by-good s (kept d) f (answers s (read s) refl) p) w
-
-pub ruleset calls = (book-stop, book-on, room-stop, room-on)

@@ -231,7 +231,7 @@ fn entry(book: &[u8], start: usize, k: usize) -> Cursor
     }
 }
 
-// no part of the book: 0 and 0
+// no part of the book: 0 and 0 and no Option, since C gets a part as its start and length
 fn nowhere() -> Span
     ensures { result ≡ absent }
 {
@@ -278,7 +278,7 @@ pub fn constraint_of(book: &[u8], k: usize) -> &[u8]
     &book[p.start..p.end]
 }
 
-// the place past the arguments of the relation r, whose number stands at p; 255 has none
+// the place past the arguments of the relation r, whose number stands at p; the format's byte 255 has none, as `past_arguments` says
 fn past(book: &[u8], p: usize, r: u8) -> usize
     requires p_in_bounds { p < length book.now }
     requires r_in_bounds { (r ≡ 255 → ⊥) → r < length book.now }
@@ -301,9 +301,9 @@ fn laid(book: &[u8], p: usize) -> cursor::Clause
     let head = book[seat];
     cursor::Clause {
         variables: book[p],
-        body: body,
+        body,
         body_at: p + 1,
-        head: head,
+        head,
         head_at: seat,
         rule: past(book, seat, head),
     }

@@ -1,4 +1,5 @@
--- What the programs' functions compute beside what they read and write: checksums, and lists that go on over again.
+-- What the programs' functions compute beside what they read and write: checksums, lists that go on over again, a list's form, and a number that the
+-- input gave.
 use Rattle.std.specs.Prelude.{ℕ, zero, suc, ◌+◌, ◌*◌, ◌-◌, ◌%◌, ◌≡◌, List, length, get_or, set, ℤ, pos, Option, Some, None}
 use Rattle.std.specs.Io.KnownBytes.{Consumes}
 use Rattle.whole.specs.Bytes.{u32_at}

@@ -61,6 +61,7 @@ pub fn read_full<R: Read>(input: &mut R, room: &mut [u8]) -> io::Result<usize>
     ensures ended { IfOk result (λ n. n < length room.old → IsAtEnd (R.remaining input.new)) }
 {
     let mut done = 0;
+    // a reader gives as many bytes at a time as it likes
     while done < room.len() {
         let n = input.read(&mut room[done..])?;
         if n == 0 {

@@ -238,7 +238,7 @@ impl Cursor {
         Ok((b, c))
     }
 
-    // a body: 255 for none, or a relation and its arguments
+    // a body: a relation and its arguments, or 255, the format's byte for none, which `body_at` hands on as it was read
     #[tactic(auto, unfolding(crate::specs::Clause::body_at, crate::specs::Steps::pick, reply::specs::Then::go_on))]
     pub fn body(self, s: &[u8], n: u8, v: u8) -> Reading<u8>
         requires { n ≤ length s.now }

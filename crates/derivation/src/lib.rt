@@ -116,6 +116,7 @@ impl<'a> Claim<'a> {
         let mut i = 0;
         let mut last = None;
         let mut steps = 0;
+        // steps differ in length, and an iterator over them would be longer than this
         while i < self.list.len() {
             self.step_at(i, last)?;
             let clause = instance::number_at(self.list, i, table.book.header.count);

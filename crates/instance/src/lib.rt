@@ -17,7 +17,8 @@ use table::Table;
 
 // ---- numbers of a list
 
-// The number at i as a clause's, or n if it is below zero.
+// The number at i as a clause's, or n if it is below zero. No Option: once a step is judged its clause is there, and whoever asks again would
+// have to say what to do where it is not.
 pub fn number_at(list: &[i32], i: usize, n: usize) -> usize
     requires { i < length list.now }
     ensures { result ≡ number_or n (get_or list.now i (pos 0)) }
@@ -98,7 +99,8 @@ pub fn values_are(
 
 // ---- judging
 
-// The place of the first of the v values from `from` on that lies outside the window of its variable of clause k, or the place after them.
+// The place of the first of the v values from `from` on that lies outside the window of its variable of clause k, or the place after them, as the
+// definition says: lists that follow one another are then searched one after the other.
 pub fn first_out(book: &[u8], h: Header, k: usize, list: &[i32], from: usize, v: usize) -> usize
     requires { from + v ≤ length list.now }
     ensures { result ≡ first_out (variable_window (book_in book.now h) (clause_at (book_in book.now h) k)) from (take v (drop from list.now)) }
@@ -112,7 +114,7 @@ pub fn first_out(book: &[u8], h: Header, k: usize, list: &[i32], from: usize, v:
 }
 
 // 13 to 15: whether an instance of clause k begins at i, after whose values `more` numbers follow. Both are inlined, so that no answer is handed
-// over in memory at each step: without that the check of a derivation took half as long again at constraints of one node (measured).
+// over in memory at each step: without that the check of a derivation took two fifths longer at constraints of one node (measured).
 #[inline(always)]
 pub fn judged(table: &Table, k: usize, list: &[i32], i: usize, more: usize) -> Answer
     requires { (k < table.now.book.header.count) × (i < length list.now) }

@@ -36,7 +36,7 @@ fn atom(out: &mut Printer, book: &Book, k: usize, r: usize, p: usize, when: When
     }
 }
 
-// The body, which is relation r with the arguments after the place p, or none.
+// The body, which is relation r with the arguments after the place p, or none where r is the format's byte 255.
 fn body(out: &mut Printer, book: &Book, k: usize, r: u8, p: usize)
     requires { (r ≡ 255) ⊎ Stands book.now r p }
     ensures { Lists out.old out.new (lines.body_items k (body_of book.now r p)) }

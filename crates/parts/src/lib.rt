@@ -121,7 +121,7 @@ impl<'a> Model<'a> {
         }
     }
 
-    // the same of a body, where 255 is none
+    // the same of a body, where the format's byte 255 is none
     #[tactic(auto, unfolding(crate::specs::Task::body_of, cursor::specs::Steps::pick))]
     fn body(&self, r: u8, p: usize) -> Option<Half>
         requires { (r ≡ 255 → ⊥) → r < self.now.book.header.relations }

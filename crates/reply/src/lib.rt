@@ -4,7 +4,7 @@
 ghost use Rattle.std.specs.Prelude.{◌≡◌, Err};
 ghost use Rattle.reply.specs.Answer.{refuse as refusal};
 
-// A refusal: its number and place.
+// A refusal: its number and place. The number is document 01's and no enum: `says-told` holds of every number, and C gets it as it is.
 #[derive(Clone, Copy)]
 pub struct Refusal {
     pub number: u8,

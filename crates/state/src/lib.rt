@@ -21,7 +21,7 @@ pub struct State {
     pub rows: [[i32; 8]; 16],
 }
 
-// ---- comparing with a list
+// ---- comparing with a list: the place after the numbers stands for none, as `first_diff` and `first_out` say; a `for` by place, since two lists go along
 
 // whether the number at i is the flag's
 fn flag_same(list: &[i32], i: usize, flag: bool) -> bool

@@ -58,7 +58,7 @@ fn seat_of(book: &Book, r: u8, p: usize) -> Seat
     }
 }
 
-// the same of a body, where 255 is none
+// the same of a body, where the format's byte 255 is none
 #[tactic(auto, unfolding(crate::specs::Table::body_of, cursor::specs::Steps::pick))]
 fn body_of(book: &Book, r: u8, p: usize) -> Option<Seat>
     requires { (r ≡ 255 → ⊥) → (p < 60000) × (r < book.now.header.relations) }

@@ -78,6 +78,7 @@ impl<'a> Claim<'a> {
         let book = &self.table.book;
         let mut state = State::first(book, self.list, book.relations());
         let mut i = self.size;
+        // steps differ in length, and an iterator over them would be longer than this
         while i < self.list.len() {
             self.step_at(i, &state)?;
             let k = instance::number_at(self.list, i, book.header.count);

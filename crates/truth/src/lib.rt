@@ -125,6 +125,7 @@ fn end(s: &[u8], p: usize, v: usize, left: usize) -> usize
 {
     let mut at = p;
     let mut n = left;
+    // how many are left goes up and down
     while 0 < n {
         let k = s[at];
         n = n - 1 + parts(k);
@@ -159,6 +160,7 @@ fn opened(sides: u64, t: bool) -> Waiting
     }
     let mut rest = sides / 4;
     let mut passed = 1;
+    // two bits at a time, until one counts
     while 3 < rest && t != (1 < rest % 4) {
         rest /= 4;
         passed += 1;
@@ -182,6 +184,7 @@ pub fn walk(s: &[u8], p: usize, v: u8, values: &[i32], from: usize) -> bool
     let mut at = p;
     let mut want = true;
     let mut sides: u64 = 1;
+    // to the leaf that settles it, from node to node of different lengths
     loop {
         let k = s[at];
         if k == Kind::Not as u8 {
