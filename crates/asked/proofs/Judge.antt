@@ -1,7 +1,7 @@
 -- The ways of a check's answer: a test, passed or failed; the goal and the list's length; one part of the answer after another.
 use Prim.Native.Nat.{ℕ, ◌<◌, ◌≤◌}
 use native.Mathlib.Omega.{arith}
-use mathlib.Core.Path.{◌≡◌, refl, sym, ap, ◌∙◌}
+use mathlib.Core.Path.{◌≡◌, refl, sym, ◌∙◌}
 use mathlib.Core.List.{List}
 use mathlib.Core.Bool.{Bool, true, false}
 use lib.ListN.{length, get_or}
@@ -18,9 +18,7 @@ use Rattle.book.specs.declared.Header.{Header}
 use Rattle.book.specs.Read.{read}
 use Rattle.book.specs.Meaning.{book_in}
 use Rattle.book.specs.Arities.{relations-are}
-use Rattle.std.specs.Prelude.{Result, Ok, Err}
-use Rattle.std.specs.Result.{IsErr, IsErrAnd}
-use Rattle.std.proofs.lemmas.Result.{err_from_is_err_and}
+use Rattle.std.specs.Prelude.{Ok, Err}
 
 -- ---- a test, passed or failed
 
@@ -83,11 +81,6 @@ module _ (b : Book) (r : ℕ) (vs : List ℤ) {y : Outcome} {n : ℕ} (p : y ≡
   pub goal-full : length vs ≡ get_or b.arities r 0
   unfolding judge_goal
   goal-full = eqb→eq (length vs) (get_or b.arities r 0) ((need-ok _ _ _ _).0 ((need-ok _ _ _ _).0 (told-done _ (sym p ∙ q))).1).0
-
--- ---- where a refusal is handed on by `?`
-
-pub handed : {A E : Type 0} {f : E} (r : Result A E) → IsErr r × IsErrAnd r (λ e. e ≡ f) → r ≡ Err f
-handed r h = let (e, p, q) = err_from_is_err_and r h.1 in p ∙ ap Err q
 
 -- ---- one part of an answer after another
 

@@ -83,7 +83,7 @@ impl<'a> Trace<'a> {
         ensures { RowAt self.now i result }
     {
         let table = self.table;
-        table.row(instance::number_at(self.list, i, table.book.header.count))
+        table.row(instance::number_in(&table.book, self.list, i))
     }
 
     // How many numbers the derivation has: over the trace's steps, for each relation those of the derivation of its present fact.

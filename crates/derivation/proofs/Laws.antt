@@ -8,13 +8,13 @@ use mathlib.Core.List.{List}
 use mathlib.Core.Option.{Option, none, some}
 use lib.ListN.{length, get_or, take, drop, length-drop}
 use lib.Seq.{take-length}
-use lib.IntN.{ℤ, pos}
+use lib.IntN.{ℤ}
 use borrow.Author.Tests.{eq-eqb, ne_eqb}
 use Rattle.meaning.specs.Book.{Book, Fact, body}
 use Rattle.lists.specs.Compare.{eq_vals, same}
 use Rattle.reply.specs.declared.Refusal.{Refusal}
-use Rattle.reply.specs.Answer.{Answer, done, refused, ok, need, and_then, refuse, told, Outcome}
-use Rattle.reply.specs.Among.{Among, told-done, told-no, told-ok}
+use Rattle.reply.specs.Answer.{Answer, done, refused, ok, need, and_then, refuse, told, giving, Outcome}
+use Rattle.reply.specs.Among.{Among, told-done, told-no, giving-no, giving-ok}
 use Rattle.lists.specs.Instance.{step_at, judge}
 use Rattle.lists.specs.Derivation.{goal, judge_step, check, check_derivation}
 use Rattle.lists.specs.Among.{among-step, among-derivation}
@@ -31,13 +31,13 @@ use Rattle.book.specs.Read.{read}
 use Rattle.table.specs.declared.Seat.{Seat}
 use Rattle.table.specs.declared.Row.{Row}
 use Rattle.table.specs.Table.{IsRow}
-use Rattle.instance.specs.Values.{number_or, number_in, values_at, Valued}
-use Rattle.instance.proofs.Laws.{number_is, instance-room}
+use Rattle.instance.specs.Values.{number_in, values_at, Valued}
+use Rattle.instance.proofs.Laws.{instance-room, instance-clause}
 use Rattle.instance.proofs.Atoms.{head_at, head-there, body-none, body_at, body-there, body_below}
 use Rattle.derivation.specs.declared.Step.{Step}
-use Rattle.derivation.specs.Step.{step_of, fact_after, Stands}
+use Rattle.derivation.specs.Step.{step_of, step_in, fact_after, Stands}
 use Rattle.derivation.specs.Answer.{counted}
-use Rattle.std.specs.Prelude.{Ok, Err, IfSome}
+use Rattle.std.specs.Prelude.{Result, Ok, Err, IfSome}
 use Rattle.std.specs.Prelude as code
 
 -- ---- two facts
@@ -127,17 +127,20 @@ module _ (s : List ℕ) (h : Header) (l : List ℤ) (r : ℕ) (vs : List ℤ) wh
 
 -- ---- the step that begins at place i, by clause k
 
-module _ (s : List ℕ) (h : Header) (good : read s ≡ Ok h) (l : List ℤ) (i : ℕ) where
-  pub step-stands : {x : Outcome} {m k : ℕ} → i < length l → x ≡ told (judge (book_in s h) (number_in s h l i) 0 (drop (i + 1) l) i) → x ≡ Ok m → k ≡ number_or h.count (get_or l i (pos 0))
-      → Stands (book_in s h) l (record { clause = k; since = i + 1 })
-  step-stands there e z q =
+module _ (s : List ℕ) (h : Header) (good : read s ≡ Ok h) (l : List ℤ) (i : ℕ) {x : Outcome} (e : x ≡ giving (judge (book_in s h) (number_in s h l i) 0 (drop (i + 1) l) i) (number_in s h l i))
+    {k : ℕ} (z : x ≡ Ok k) where
+  pub step-stands : i < length l → Stands (book_in s h) l (record { clause = k; since = i + 1 })
+  step-stands there =
       let (b, r) = instance-room s h good l i 0 e z there in
-      let same = number_is s h good l i q in
+      let same = instance-clause s h good l i 0 e z in
       record { below = omega (arith, rw same at b, count-is s h good); room = omega (arith, rw same at r) }
 
-  pub step-met : (o : Option Fact) {k : ℕ} {r : Bool} → k ≡ number_or h.count (get_or l i (pos 0)) → r ≡ same (body (book_in s h) (step_at (book_in s h) k (drop (i + 1) l))) o
+  pub step-same : record { clause = k; since = i + 1 } ≡ step_in s h l i
+  step-same = ap (λ (n : ℕ). record { clause = n; since = i + 1 }) (sym (instance-clause s h good l i 0 e z))
+
+  pub step-met : (o : Option Fact) {r : Bool} → r ≡ same (body (book_in s h) (step_at (book_in s h) k (drop (i + 1) l))) o
       → r ≡ same (body (book_in s h) (step_at (book_in s h) (number_in s h l i) (drop (i + 1) l))) o
-  step-met o q e = rw (number_is s h good l i q) e
+  step-met o q = rw (instance-clause s h good l i 0 e z) q
 
 -- ---- what is due from place i on, where o is the fact just before, c is how many steps were taken, and a is the answer due in all
 
@@ -181,37 +184,40 @@ module _ (s : List ℕ) (h : Header) (good : read s ≡ Ok h) (f : Fact) (l : Li
         let m : i ≡ length l = omega (arith, g.inside) in
         rw (← g.same-due, due-none the_book f l i o b, sym q ∙ e, m) z
 
-    module _ (there : i < length l) {y : Outcome} (e : y ≡ told (judge_step the_book (number_in s h l i) (drop (i + 1) l) i o)) where
+    module _ (there : i < length l) {y : Result Step Refusal} (e : y ≡ giving (judge_step the_book (number_in s h l i) (drop (i + 1) l) i o) (step_in s h l i)) where
       pub going-stop : {v : Refusal} {x : Outcome} → y ≡ Err v → x ≡ Err v → x ≡ told (counted (check the_book f l) (length (derivation_steps the_book l)))
       unfolding told counted and_then
-      going-stop {v} z q = rw (← g.same-due, due-more the_book f l i o there, told-no _ v (sym e ∙ z)) q
+      going-stop {v} z q = rw (← g.same-due, due-more the_book f l i o there, giving-no _ _ v (sym e ∙ z)) q
 
-      module _ {m : ℕ} (z : y ≡ Ok m) {k : ℕ} (q : k ≡ number_or h.count (get_or l i (pos 0))) where
-        abbrev now_last : Step
-        now_last = record { clause = k; since = i + 1 }
+      module _ {now_last : Step} (z : y ≡ Ok now_last) where
+        given : (judge_step the_book (number_in s h l i) (drop (i + 1) l) i o ≡ ok) × (step_in s h l i ≡ now_last)
+        given = giving-ok _ _ (among-step _ _ _ _ _) (sym e ∙ z)
 
         step_ok : judge_step the_book (number_in s h l i) (drop (i + 1) l) i o ≡ ok
-        step_ok = told-ok _ (among-step _ _ _ _ _) (sym e ∙ z)
+        step_ok = given.0
 
-        here : number_in s h l i ≡ k
-        here = number_is s h good l i q
+        here : number_in s h l i ≡ now_last.clause
+        here = ap (λ (x : Step). x.clause) given.1
+
+        pub going-since : i + 1 ≡ now_last.since
+        going-since = ap (λ (x : Step). x.since) given.1
 
         going-stands : Stands the_book l now_last
         unfolding judge_step
         going-stands =
             let x = (enabled-exact the_book (number_in s h l i) 0 (drop (i + 1) l) i _).0 step_ok in
-            record { below = rw here at x.0.there; room = omega (arith, rw here at x.1, length-drop (i + 1) l) }
+            record { below = rw here at x.0.there; room = omega (arith, rw here at x.1, going-since, length-drop (i + 1) l) }
 
-        pub going-below : k < h.count
+        pub going-below : now_last.clause < h.count
         going-below = omega (arith, going-stands.below, count-is s h good)
 
-        pub going_on : {r : Row} → IsRow s h k r → Going s h f l (i + 1 + r.variables) (code.Some now_last) (c + 1)
+        pub going_on : {r : Row} → IsRow s h now_last.clause r → Going s h f l (now_last.since + r.variables) (code.Some now_last) (c + 1)
         unfolding and_then fact_after
         going_on w = record {
           inside = omega (arith, going-stands.room, w.vars);
-          same-due = rw (← w.vars) (sym (rw (step_ok, here) at (due-more the_book f l i o there)) ∙ g.same-due);
-          same-steps = omega (arith, rw (here, w.vars) at (count-due-more the_book l i there), g.same-steps);
-          few = omega (arith, g.few);
+          same-due = rw (← going-since, ← w.vars) (sym (rw (step_ok, here) at (due-more the_book f l i o there)) ∙ g.same-due);
+          same-steps = omega (arith, rw (here, w.vars, going-since) at (count-due-more the_book l i there), g.same-steps);
+          few = omega (arith, g.few, going-since);
           stands = going-stands;
         }
 

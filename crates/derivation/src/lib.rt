@@ -9,7 +9,7 @@ ghost use Rattle.book.specs.Held.{meant};
 ghost use Rattle.derivation.specs.Answer.{counted, answer};
 
 use book::Book;
-use reply::{Answer, refuse};
+use reply::{Answer, Refusal, refuse};
 use table::Table;
 
 // A step of a list: its clause, and where its values stand.
@@ -36,7 +36,8 @@ impl<'a> Claim<'a> {
     ghost use Rattle.lists.specs.Compare.{same};
     ghost use Rattle.lists.specs.Derivation.{judge_step, check as check_list, goal};
     ghost use Rattle.instance.specs.Values.{number_in};
-    ghost use Rattle.derivation.specs.Step.{step_of, fact_after, Stands};
+    ghost use Rattle.reply.specs.Answer.{giving};
+    ghost use Rattle.derivation.specs.Step.{step_of, step_in, fact_after, Stands};
 
     // whether the body of a step is the head of the one before it, if there is one
     fn met(&self, step: Step, last: Option<Step>) -> bool
@@ -67,19 +68,19 @@ impl<'a> Claim<'a> {
         )
     }
 
-    // 12 to 16: whether a step may begin at i, after the step `last`, if there is one
-    fn step_at(&self, i: usize, last: Option<Step>) -> Answer
+    // 12 to 16: the step that begins at i, after the step `last`, if there is one
+    fn step_at(&self, i: usize, last: Option<Step>) -> Result<Step, Refusal>
         requires i_in_bounds { i < length self.now.list.now }
         requires last { IfSome last (λ x. Stands (meant self.now.table.now.book) self.now.list.now x) }
-        ensures { result ≡ told (judge_step (meant self.now.table.now.book) (number_in self.now.table.now.book.bytes.now self.now.table.now.book.header self.now.list.now i) (drop (i + 1) self.now.list.now) i (fact_after (meant self.now.table.now.book) self.now.list.now last)) }
+        ensures { result ≡ giving (judge_step (meant self.now.table.now.book) (number_in self.now.table.now.book.bytes.now self.now.table.now.book.header self.now.list.now i) (drop (i + 1) self.now.list.now) i (fact_after (meant self.now.table.now.book) self.now.list.now last)) (step_in self.now.table.now.book.bytes.now self.now.table.now.book.header self.now.list.now i) }
     {
-        instance::instance_at(self.table, self.list, i, 0)?;
+        let clause = instance::instance_at(self.table, self.list, i, 0)?;
         let step = Step {
-            clause: instance::number_at(self.list, i, self.table.book.header.count),
+            clause,
             since: i + 1,
         };
         if self.met(step, last) {
-            Ok(0)
+            Ok(step)
         } else {
             refuse(16, i)
         }
@@ -118,11 +119,9 @@ impl<'a> Claim<'a> {
         let mut steps = 0;
         // steps differ in length, and an iterator over them would be longer than this
         while i < self.list.len() {
-            self.step_at(i, last)?;
-            let clause = instance::number_at(self.list, i, table.book.header.count);
-            let since = i + 1;
-            last = Some(Step { clause, since });
-            i = since + table.row(clause).variables as usize;
+            let step = self.step_at(i, last)?;
+            i = step.since + table.row(step.clause).variables as usize;
+            last = Some(step);
             steps += 1;
         }
         if self.ended(last) {

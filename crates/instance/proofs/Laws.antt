@@ -9,15 +9,15 @@ use mathlib.Core.Bool.{Bool, true, false, ◌&&◌}
 use mathlib.Core.List.{List, [], ◌∷◌, map}
 use lib.ListN.{length, get_or, take, drop, length-map, length-drop}
 use lib.Seq.{drop-cons, get_or-take, get_or-drop, length-take-le}
-use lib.IntN.{ℤ, pos, negsuc}
+use lib.IntN.{ℤ, pos}
 use borrow.Author.Tests.{lt-ltb, le-ltb, le-leb, lt-leb}
 use Rattle.meaning.specs.Constraint.{holds}
 use Rattle.meaning.specs.Book.{Book, Clause, Window, variable_window}
 use Rattle.reply.specs.declared.Refusal.{Refusal}
-use Rattle.reply.specs.Answer.{Answer, refused, ok, need, and_then, refuse, told, Outcome}
-use Rattle.reply.specs.Among.{told-no, told-ok}
+use Rattle.reply.specs.Answer.{Answer, refused, ok, need, and_then, refuse, told, giving, Outcome}
+use Rattle.reply.specs.Among.{told-done, told-no, giving-no, giving-ok}
 use Rattle.lists.specs.Compare.{eq_z, eq_vals, inside, all_in, first_out}
-use Rattle.lists.specs.Instance.{clause_number, clause_at, judge_clause, judge, judge_enabled}
+use Rattle.lists.specs.Instance.{clause_at, judge_clause, judge, judge_enabled}
 use Rattle.lists.specs.Among.{among-judge}
 use Rattle.lists.specs.Laws.{judge-exact}
 use Rattle.book.specs.declared.Header.{Header}
@@ -29,8 +29,8 @@ use Rattle.book.specs.Joined.{count-is}
 use Rattle.cursor.specs.Meaning.{tree_in}
 use Rattle.table.specs.declared.Row.{Row}
 use Rattle.table.specs.Table.{IsRow}
-use Rattle.instance.specs.Values.{number_or, number_in, values_at, Valued}
-use Rattle.std.specs.Prelude.{Ok, Err}
+use Rattle.instance.specs.Values.{number_in, values_at, Valued}
+use Rattle.std.specs.Prelude.{Result, Ok, Err}
 
 -- ---- two lists of values, compared from number j on
 
@@ -187,23 +187,15 @@ module _ (b : Book) (c : Clause) (more : ℕ) (l : List ℤ) (i : ℕ) where
 
 -- ---- the clause that a list's number names
 
-module _ (s : List ℕ) (h : Header) (good : read s ≡ Ok h) (l : List ℤ) (i : ℕ) {k : ℕ} (q : k ≡ number_or h.count (get_or l i (pos 0))) where
-  pub number_is : number_in s h l i ≡ k
-  unfolding clause_number number_or
-  number_is = go (get_or l i (pos 0)) ∙ sym q
-    where
-      go : (z : ℤ) → clause_number (book_in s h) z ≡ number_or h.count z
-      go (pos n) = refl
-      go (negsuc n) = count-is s h good
-
-  pub judge-none : (more : ℕ) → h.count ≤ k → judge (book_in s h) (number_in s h l i) more (drop (i + 1) l) i ≡ refused 12 i
+module _ (s : List ℕ) (h : Header) (good : read s ≡ Ok h) (l : List ℤ) (i more : ℕ) where
+  pub judge-none : h.count ≤ number_in s h l i → judge (book_in s h) (number_in s h l i) more (drop (i + 1) l) i ≡ refused 12 i
   unfolding judge need
-  judge-none more a = rw (number_is, le-ltb k (length (book_in s h).clauses) (omega (arith, count-is s h good)))
+  judge-none a = rw (le-ltb (number_in s h l i) (length (book_in s h).clauses) (omega (arith, count-is s h good)))
 
-  pub judge-some : (more : ℕ) → k < h.count →
-      judge (book_in s h) (number_in s h l i) more (drop (i + 1) l) i ≡ judge_clause (book_in s h) (clause_at (book_in s h) k) more (drop (i + 1) l) i
+  pub judge-some : number_in s h l i < h.count →
+      judge (book_in s h) (number_in s h l i) more (drop (i + 1) l) i ≡ judge_clause (book_in s h) (clause_at (book_in s h) (number_in s h l i)) more (drop (i + 1) l) i
   unfolding judge need
-  judge-some more a = rw (number_is, lt-ltb k (length (book_in s h).clauses) (omega (arith, count-is s h good)))
+  judge-some a = rw (lt-ltb (number_in s h l i) (length (book_in s h).clauses) (omega (arith, count-is s h good)))
 
 -- ---- judging, as the code does it by the clause's row
 
@@ -261,17 +253,42 @@ module _ {a : Answer} {x : Outcome} where
   unfolding told
   as-ok e q = rw e q
 
+-- what goes on with what it gives
+module _ {B : Type 0} (a : Answer) (k : B) {x : Result B Refusal} where
+  pub giving-refused : {n p : ℕ} → a ≡ refused n p → x ≡ Err (refuse n p) → x ≡ giving a k
+  unfolding giving
+  giving-refused e q = rw e q
+
+  pub giving-done : a ≡ ok → x ≡ Ok k → x ≡ giving a k
+  unfolding giving
+  giving-done e q = rw e q
+
+  pub giving-stop : {y : Outcome} {g : Refusal} → y ≡ told a → y ≡ Err g → x ≡ Err g → x ≡ giving a k
+  unfolding giving
+  giving-stop {y} {g} p q e = rw (told-no a g (sym p ∙ q)) e
+
+  pub giving-on : {y : Outcome} {m : ℕ} → y ≡ told a → y ≡ Ok m → x ≡ Ok k → x ≡ giving a k
+  unfolding giving
+  giving-on p q e = rw (told-done a (sym p ∙ q)) e
+
 -- ---- a step that may be taken where its body is met, by the answer of its instance
 
-module _ (s : List ℕ) (h : Header) (good : read s ≡ Ok h) (l : List ℤ) (i more : ℕ) {x : Outcome} (e : x ≡ told (judge (book_in s h) (number_in s h l i) more (drop (i + 1) l) i)) where
+module _ (s : List ℕ) (h : Header) (good : read s ≡ Ok h) (l : List ℤ) (i more : ℕ) {x : Outcome} (e : x ≡ giving (judge (book_in s h) (number_in s h l i) more (drop (i + 1) l) i) (number_in s h l i)) where
   -- it is refused
-  pub enabled-stop : (met : Bool) {g : Refusal} {y : Outcome} → x ≡ Err g → y ≡ Err g → y ≡ told (judge_enabled (book_in s h) (number_in s h l i) more (drop (i + 1) l) i met)
-  unfolding judge_enabled and_then told
-  enabled-stop met {g} z q = rw (told-no _ g (sym e ∙ z)) q
+  pub enabled-stop : (met : Bool) {g : Refusal} → x ≡ Err g → judge_enabled (book_in s h) (number_in s h l i) more (drop (i + 1) l) i met ≡ refused g.number g.place
+  unfolding judge_enabled and_then
+  enabled-stop met {g} z = rw (giving-no _ _ g (sym e ∙ z))
 
-  module _ {m : ℕ} (z : x ≡ Ok m) where
+  module _ {k : ℕ} (z : x ≡ Ok k) where
+    both : (judge (book_in s h) (number_in s h l i) more (drop (i + 1) l) i ≡ ok) × (number_in s h l i ≡ k)
+    both = giving-ok _ _ (among-judge _ _ _ _ _) (sym e ∙ z)
+
     instance-ok : judge (book_in s h) (number_in s h l i) more (drop (i + 1) l) i ≡ ok
-    instance-ok = told-ok _ (among-judge _ _ _ _ _) (sym e ∙ z)
+    instance-ok = both.0
+
+    -- what it gives is its clause
+    pub instance-clause : number_in s h l i ≡ k
+    instance-clause = both.1
 
     -- it stands there in full, with what follows it
     pub instance-room : i < length l → (number_in s h l i < h.count) × (i + 1 + (clause_at (book_in s h) (number_in s h l i)).vars + more ≤ length l)
@@ -279,10 +296,10 @@ module _ (s : List ℕ) (h : Header) (good : read s ≡ Ok h) (l : List ℤ) (i 
         let (one, room) = (judge-exact (book_in s h) (number_in s h l i) more (drop (i + 1) l) i).0 instance-ok in
         (omega (arith, one.there, count-is s h good), omega (arith, room, length-drop (i + 1) l))
 
-    pub enabled-met : (met : Bool) {r : Bool} {y : Outcome} → r ≡ met → r ≡ true → y ≡ Ok 0 → y ≡ told (judge_enabled (book_in s h) (number_in s h l i) more (drop (i + 1) l) i met)
-    unfolding judge_enabled and_then need told
-    enabled-met met q t u = rw (instance-ok, sym q ∙ t) u
+    pub enabled-met : (met : Bool) {r : Bool} → r ≡ met → r ≡ true → judge_enabled (book_in s h) (number_in s h l i) more (drop (i + 1) l) i met ≡ ok
+    unfolding judge_enabled and_then need
+    enabled-met met q t = rw (instance-ok, sym q ∙ t)
 
-    pub enabled-unmet : (met : Bool) {r : Bool} {y : Outcome} → r ≡ met → r ≡ false → y ≡ Err (refuse 16 i) → y ≡ told (judge_enabled (book_in s h) (number_in s h l i) more (drop (i + 1) l) i met)
-    unfolding judge_enabled and_then need told
-    enabled-unmet met q t u = rw (instance-ok, sym q ∙ t) u
+    pub enabled-unmet : (met : Bool) {r : Bool} → r ≡ met → r ≡ false → judge_enabled (book_in s h) (number_in s h l i) more (drop (i + 1) l) i met ≡ refused 16 i
+    unfolding judge_enabled and_then need
+    enabled-unmet met q t = rw (instance-ok, sym q ∙ t)

@@ -3,6 +3,7 @@ use Prim.Native.Nat.{ℕ, suc, ◌-◌, ◌^◌, ◌<◌, ◌≤◌}
 use native.Mathlib.Omega.{arith}
 use mathlib.Core.Path.{◌≡◌, refl, sym, ap, ◌∙◌}
 use mathlib.Core.Bool.{Bool, true, false}
+use lib.ListN.{length}
 use lib.Dec.{T, eqb}
 use lib.IntN.{ℤ, pos, negsuc, nat_abs}
 use lib.Signed.{mag, le_z, lt_z, non_neg}
@@ -12,7 +13,8 @@ use mir.Val.{SFits, Fits, hbits, to_z, of_z}
 use mir.Facts.{to_z-of_z}
 use Rattle.whole.specs.Whole.{own, fits-small, non_neg-of, pos-is, neg_is}
 use Rattle.lists.specs.Compare.{eq_z, inside}
-use Rattle.instance.specs.Values.{number_or}
+use Rattle.meaning.specs.Book.{Book}
+use Rattle.lists.specs.Instance.{clause_number}
 
 module _ (lo hi x : ℤ) where
   pub inside-yes : SFits w32 lo → SFits w32 hi → mag x < 2 ^ hbits w32 → le_z (to_z w32 (of_z w32 lo)) (to_z w32 (of_z w32 x)) ≡ true →
@@ -38,18 +40,40 @@ same_number (pos m) (negsuc n) h k = let a : m < 2147483648 = h in let b : n < 2
 same_number (negsuc m) (pos n) h k = let a : m < 2147483648 = h in let b : n < 2147483648 = k in ne_eqb (4294967296 - suc m) n (λ q. omega arith)
 same_number (negsuc m) (negsuc n) h k = same_bits m n h k
 
-module _ (n : ℕ) (x : ℤ) where
-  pub number-low : mag x < 2 ^ hbits w32 → lt_z (to_z w32 (of_z w32 x)) (pos 0) ≡ true → n ≡ number_or n x
-  unfolding number_or
-  number-low h e = rw (neg_is x (rw (own w32 x h) at e))
+-- a number of a list as a clause's
+module _ (b : Book) (x : ℤ) (h : mag x < 2 ^ hbits w32) where
+  pub number-low : lt_z (to_z w32 (of_z w32 x)) (pos 0) ≡ true → clause_number b x ≡ length b.clauses
+  unfolding clause_number
+  number-low e = rw (neg_is x (rw (own w32 x h) at e))
 
-  pub number-high : mag x < 2 ^ hbits w32 → lt_z (to_z w32 (of_z w32 x)) (pos 0) ≡ false → nat_abs (to_z w32 (of_z w32 x)) ≡ number_or n x
-  unfolding number_or
-  number-high h e = let z = pos-is x (rw (own w32 x h) at e) in rw (own w32 x h) (sym (ap (number_or n) z))
+  pub number-high : lt_z (to_z w32 (of_z w32 x)) (pos 0) ≡ false → nat_abs (to_z w32 (of_z w32 x)) ≡ clause_number b x
+  unfolding clause_number
+  number-high e = let z = pos-is x (rw (own w32 x h) at e) in rw (own w32 x h) (sym (ap (clause_number b) z))
+
+  -- where it names one it is a number
+  module _ (k : clause_number b x < length b.clauses) where
+    named-fits : T (non_neg x) × (nat_abs x ≤ 2147483648) → T (non_neg x) × Fits w64 (nat_abs x)
+    named-fits (p, q) = (p, record { fits = omega arith })
+
+    pub number-fits : T (non_neg (to_z w32 (of_z w32 x))) × Fits w64 (nat_abs (to_z w32 (of_z w32 x)))
+    unfolding clause_number
+    number-fits = rw (own w32 x h) (named-fits (go x k, (fits-small {w = w32} {z = x} (record { sfits = h })).abs))
+      where
+        go : (x : ℤ) → clause_number b x < length b.clauses → T (non_neg x)
+        go (pos n) k = tt
+        go (negsuc n) k = absurd (let z : ⊥ = omega arith in z)
+
+    pub number-is : nat_abs (to_z w32 (of_z w32 x)) ≡ clause_number b x
+    unfolding clause_number
+    number-is = rw (own w32 x h) (go x k)
+      where
+        go : (x : ℤ) → clause_number b x < length b.clauses → nat_abs x ≡ clause_number b x
+        go (pos n) k = refl
+        go (negsuc n) k = absurd (let z : ⊥ = omega arith in z)
 
 pub number_fits : (x : ℤ) → mag x < 2 ^ hbits w32 → lt_z (to_z w32 (of_z w32 x)) (pos 0) ≡ false → T (non_neg (to_z w32 (of_z w32 x))) × Fits w64 (nat_abs (to_z w32 (of_z w32 x)))
 number_fits x h e =
     let s = fits-small {w = w32} {z = x} (record { sfits = h }) in
     rw (own w32 x h) (non_neg-of x (rw (own w32 x h) at e), record { fits = let k : nat_abs x ≤ 2147483648 = s.abs in omega arith })
 
-pub ruleset numbers = (inside-yes, inside-no, same_number, number-low, number-high, number_fits)
+pub ruleset numbers = (inside-yes, inside-no, same_number, number_fits)

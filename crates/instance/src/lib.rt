@@ -3,28 +3,26 @@
 
 ghost use Rattle.std.specs.Prelude.{◌≡◌, [], ◌+◌, ◌<◌, ◌≤◌, length, get_or, take, drop, pos};
 ghost use Rattle.meaning.specs.Book.{variable_window};
-ghost use Rattle.reply.specs.Answer.{told};
+ghost use Rattle.reply.specs.Answer.{told, giving};
 ghost use Rattle.lists.specs.Compare.{eq_z, eq_vals, inside, first_out};
 ghost use Rattle.lists.specs.Instance.{clause_number, clause_at, judge_clause, judge};
 ghost use Rattle.book.specs.Meaning.{book_in};
 ghost use Rattle.book.specs.Held.{meant};
 ghost use Rattle.book.specs.Windows.{window_of};
-ghost use Rattle.instance.specs.Values.{number_or, number_in, values_at, Valued};
+ghost use Rattle.instance.specs.Values.{number_in, values_at, Valued};
 
-use book::{Header, Window};
+use book::{Book, Header, Window};
 use reply::{Answer, refuse};
 use table::Table;
 
 // ---- numbers of a list
 
-// The number at i as a clause's, or n if it is below zero. No Option: once a step is judged its clause is there, and whoever asks again would
-// have to say what to do where it is not.
-pub fn number_at(list: &[i32], i: usize, n: usize) -> usize
-    requires { i < length list.now }
-    ensures { result ≡ number_or n (get_or list.now i (pos 0)) }
+// The clause that the number at i names, where it names one.
+pub fn number_in(book: &Book, list: &[i32], i: usize) -> usize
+    requires { (i < length list.now) × (number_in book.now.bytes.now book.now.header list.now i < book.now.header.count) }
+    ensures { result ≡ number_in book.now.bytes.now book.now.header list.now i }
 {
-    let x = list[i];
-    if x < 0 { n } else { x as usize }
+    list[i] as usize
 }
 
 // Whether the number at i lies in the window.
@@ -146,16 +144,20 @@ pub fn judged(table: &Table, k: usize, list: &[i32], i: usize, more: usize) -> A
     }
 }
 
-// 12 to 15: the same of the step that begins at i.
+// 12 to 15: the same of the step that begins at i; done with its clause.
 #[inline(always)]
 pub fn instance_at(table: &Table, list: &[i32], i: usize, more: usize) -> Answer
     requires { i < length list.now }
-    ensures { result ≡ told (judge (meant table.now.book) (number_in table.now.book.bytes.now table.now.book.header list.now i) more (drop (i + 1) list.now) i) }
+    ensures { result ≡ giving (judge (meant table.now.book) (number_in table.now.book.bytes.now table.now.book.header list.now i) more (drop (i + 1) list.now) i) (number_in table.now.book.bytes.now table.now.book.header list.now i) }
 {
-    let count = table.book.header.count;
-    let k = number_at(list, i, count);
-    if count <= k {
+    let x = list[i];
+    if x < 0 {
         return refuse(12, i);
     }
-    judged(table, k, list, i, more)
+    let k = x as usize;
+    if table.book.header.count <= k {
+        return refuse(12, i);
+    }
+    judged(table, k, list, i, more)?;
+    Ok(k)
 }

@@ -2,7 +2,7 @@
 use Rattle.std.specs.Prelude.{ℕ, ◌≡◌, refl, ◌↔◌, Bool, true, false, List, [], ◌∷◌, ◌++◌, T, eqb, Ok, Err}
 use Rattle.std.proofs.Common.{arith, sym, ap, ◌∙◌, eqb→eq}
 use Rattle.reply.specs.declared.Refusal.{Refusal}
-use Rattle.reply.specs.Answer.{Answer, done, refused, ok, number, need, and_then, refuse, told}
+use Rattle.reply.specs.Answer.{Answer, done, refused, ok, number, need, and_then, refuse, told, giving}
 
 -- n is one of the numbers ns
 unfoldable pub has : List ℕ → ℕ → Bool
@@ -108,3 +108,14 @@ pub told-no : (a : Answer) (g : Refusal) → told a ≡ Err g → a ≡ refused 
 unfolding told
 told-no (done n) g e = absurd (let z : ◌≡◌ {A = ℕ} 0 1 = cc in let w : ⊥ = omega arith in w)
 told-no (refused n p) g e = let z : refuse n p ≡ g = cc in rw (← z)
+
+-- what is given with it
+pub giving-no : {B : Type 0} (a : Answer) (y : B) (g : Refusal) → giving a y ≡ Err g → a ≡ refused g.number g.place
+unfolding giving
+giving-no (done n) y g e = absurd (let z : ◌≡◌ {A = ℕ} 0 1 = cc in let w : ⊥ = omega arith in w)
+giving-no (refused n p) y g e = let z : refuse n p ≡ g = cc in rw (← z)
+
+pub giving-ok : {B : Type 0} {ns : List ℕ} (a : Answer) (y : B) {z : B} → Among ns a → giving a y ≡ Ok z → (a ≡ ok) × (y ≡ z)
+unfolding giving
+giving-ok (done n) y w e = (ap done (w.plain refl), cc)
+giving-ok (refused n p) y w e = absurd (let z : ◌≡◌ {A = ℕ} 0 1 = cc in let w : ⊥ = omega arith in w)

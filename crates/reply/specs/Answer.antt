@@ -48,6 +48,11 @@ unfoldable pub told : Answer → Outcome
 told (done n) = Ok n
 told (refused n p) = Err (refuse n p)
 
+-- the same, and what is given where it is done
+unfoldable pub giving : {B : Type 0} → Answer → B → Result B Refusal
+giving (done n) y = Ok y
+giving (refused n p) y = Err (refuse n p)
+
 pub says-told : (a : Answer) → says (told a) ≡ a
 unfolding says told
 says-told (done n) = refl

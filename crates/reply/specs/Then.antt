@@ -1,6 +1,8 @@
 -- How steps that may refuse follow one another: the next one goes on with what the one before it gave, or its refusal is handed on.
 use Rattle.std.specs.Prelude.{ℕ, ◌≡◌, refl, Result, Ok, Err}
-use Rattle.std.proofs.Common.{arith, ap}
+use Rattle.std.proofs.Common.{arith, ap, ◌∙◌}
+use Rattle.std.specs.Result.{IsErr, IsErrAnd}
+use Rattle.std.proofs.lemmas.Result.{err_from_is_err_and}
 use Rattle.reply.specs.declared.Refusal.{Refusal}
 
 -- go on with what was given, or stop at the refusal
@@ -36,6 +38,10 @@ went (Ok a) go stop n q k = k a refl q
 went (Err r) go stop n q k = absurd (n r q)
 
 -- ---- the laws by which a promise follows the code
+
+-- where a refusal is handed on by `?`
+pub handed : {A E : Type 0} {f : E} (r : Result A E) → IsErr r × IsErrAnd r (λ e. e ≡ f) → r ≡ Err f
+handed r h = let (e, p, q) = err_from_is_err_and r h.1 in p ∙ ap Err q
 
 module _ {A B : Type 0} {x : B} (y : Result A Refusal) (go : A → B) (stop : Refusal → B) where
   pub goes-on : {a : A} {r : Result A Refusal} → r ≡ y → r ≡ Ok a → x ≡ go a → x ≡ go_on y go stop

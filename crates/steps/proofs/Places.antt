@@ -4,17 +4,13 @@ use mathlib.Core.List.{List}
 use Prim.Native.Nat.{ℕ, zero, suc, ◌+◌, ◌*◌, ◌≤◌, ◌<◌}
 use native.Mathlib.Nat.{add-zero, add-suc}
 use native.Mathlib.Omega.{arith}
-use lib.ListN.{length, get_or}
-use lib.IntN.{ℤ, pos}
+use lib.ListN.{length}
+use lib.IntN.{ℤ}
 use Rattle.meaning.specs.Book.{Book}
 use Rattle.lists.specs.Places.{after, start, start-next}
 use Rattle.book.specs.declared.Header.{Header}
 use Rattle.book.specs.Meaning.{book_in}
 use Rattle.book.specs.Joined.{count-is}
-use Rattle.table.specs.declared.Row.{Row}
-use Rattle.table.specs.Table.{IsRow}
-use Rattle.instance.specs.Values.{number_or, number_in}
-use Rattle.instance.proofs.Laws.{number_is}
 use Rattle.steps.specs.Walk.{Here, Walk}
 
 module _ (b : Book) (z : ℕ) (l : List ℤ) (i : ℕ) where
@@ -33,20 +29,6 @@ module _ (b : Book) (z : ℕ) (l : List ℤ) (i : ℕ) where
   unfolding start
   start-long h zero = omega arith
   start-long h (suc k) = omega (arith, start-long h k)
-
--- ---- the step at place i: k is its clause's number, as the code has it
-
-module _ {s : List ℕ} {h : Header} {l : List ℤ} {z i : ℕ} (x : Here s h l z i) {k : ℕ} (q : k ≡ number_or h.count (get_or l i (pos 0))) where
-  same : number_in s h l i ≡ k
-  same = number_is s h x.good l i q
-
-  -- it has a row
-  pub here-below : k < h.count
-  here-below = rw same at x.there
-
-  -- that of the step's clause
-  pub here-row : {r : Row} → IsRow s h k r → IsRow s h (number_in s h l i) r
-  here-row w = rw same w
 
 -- ---- the steps of a walk
 

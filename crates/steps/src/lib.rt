@@ -14,7 +14,7 @@ pub fn after(table: &Table, list: &[i32], z: usize, i: usize) -> usize
     requires { Here table.now.book.bytes.now table.now.book.header list.now z i }
     ensures { result ≡ after_step (meant table.now.book) z list.now i }
 {
-    let k = instance::number_at(list, i, table.book.header.count);
+    let k = instance::number_in(&table.book, list, i);
     i + 1 + table.row(k).variables as usize + z
 }
 

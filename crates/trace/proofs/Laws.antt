@@ -13,9 +13,9 @@ use borrow.Author.Tests.{le-leb, lt-leb}
 use Rattle.meaning.specs.Book.{Book, Fact, body, head}
 use Rattle.meaning.specs.State.{Control, State, write, flags}
 use Rattle.reply.specs.declared.Refusal.{Refusal}
-use Rattle.reply.specs.Among.{told-no, told-ok}
+use Rattle.reply.specs.Among.{giving-no, giving-ok}
 use Rattle.reply.specs.Answer as reply
-use Rattle.reply.specs.Answer.{ok, need, and_then, refuse, told, Outcome}
+use Rattle.reply.specs.Answer.{ok, refused, need, and_then, refuse, told, giving, Outcome}
 use Rattle.lists.specs.Compare.{eq_vals, first_diff}
 use Rattle.lists.specs.Instance.{clause_number, clause_at, step_at, judge}
 use Rattle.lists.specs.Trace.{size, state_numbers, has, meets, judge_move, first_of}
@@ -31,8 +31,8 @@ use Rattle.book.specs.Joined.{count-is}
 use Rattle.book.specs.Arities.{relations-are}
 use Rattle.table.specs.declared.Row.{Row}
 use Rattle.table.specs.Table.{IsRow}
-use Rattle.instance.specs.Values.{number_or, number_in}
-use Rattle.instance.proofs.Laws.{number_is, values_length, enabled-stop, enabled-met, enabled-unmet, instance-room}
+use Rattle.instance.specs.Values.{number_in}
+use Rattle.instance.proofs.Laws.{values_length, enabled-stop, enabled-met, enabled-unmet, instance-room, instance-clause}
 use Rattle.instance.proofs.Atoms.{head_at, head-there}
 use Rattle.asked.proofs.Judge.{need-yes, need-no, ends-well}
 use Rattle.state.specs.declared.State as code
@@ -57,9 +57,9 @@ module _ (b : Book) (C : Control) (σ : State C) (f : Fact) (n : ℕ) {x : Outco
 
 -- ---- a step that is taken
 
-enabled_ok : (b : Book) (C : Control) (k : ℕ) (l : List ℤ) (i : ℕ) (σ : State C) {m : ℕ} → told (enabled b C k l i σ) ≡ Ok m → enabled b C k l i σ ≡ ok
+given : (b : Book) (C : Control) (k : ℕ) (l : List ℤ) (i : ℕ) (σ : State C) {n m : ℕ} → giving (enabled b C k l i σ) n ≡ Ok m → (enabled b C k l i σ ≡ ok) × (n ≡ m)
 unfolding enabled
-enabled_ok b C k l i σ e = told-ok _ (among-enabled _ _ _ _ _ _) e
+given b C k l i σ {n} e = giving-ok _ n (among-enabled _ _ _ _ _ _) e
 
 -- ---- what is due from a place on
 
@@ -82,18 +82,18 @@ module _ (b : Book) (C : Control) (f : Fact) (l : List ℤ) (i : ℕ) (σ : Stat
   unfolding judge_move enabled next_state
   two-parts at e = rw (drop-drop (clause_at b clause).vars (i + 1) l, e)
 
-  module _ (lt : i < length l) {y : Outcome} (judged : y ≡ told (enabled b C clause rest i σ)) where
+  module _ (lt : i < length l) {y : Outcome} (judged : y ≡ giving (enabled b C clause rest i σ) clause) where
     -- the step is refused
     pub due-stop : {v : Refusal} {x : Outcome} → y ≡ Err v → x ≡ Err v → x ≡ told (walk_due b C f l i σ)
     unfolding and_then told
-    due-stop {v} stop e = rw (walk-due-more b C f l i σ lt, two-parts _ refl, told-no _ v (sym judged ∙ stop)) e
+    due-stop {v} stop e = rw (walk-due-more b C f l i σ lt, two-parts _ refl, giving-no _ _ v (sym judged ∙ stop)) e
 
     -- it is not, and the next state τ stands at place j
     module _ {m : ℕ} (none : y ≡ Ok m) (τ : State C) (moved : τ ≡ write C (head b (step_at b clause rest)) σ) {j : ℕ} (at : j ≡ i + 1 + (clause_at b clause).vars)
         (many : length (state_numbers b C τ) ≡ size b C) (fits : j + size b C ≤ length l) {d : ℕ} (q : d ≡ first_diff j (drop j l) (state_numbers b C τ)) where
       opened : walk_due b C f l i σ ≡ and_then (next_state b C l j τ) (walk_due b C f l (j + size b C) τ)
       unfolding and_then
-      opened = rw (walk-due-more b C f l i σ lt, two-parts j at, enabled_ok b C clause rest i σ (sym judged ∙ none), moved, at)
+      opened = rw (walk-due-more b C f l i σ lt, two-parts j at, (given b C clause rest i σ (sym judged ∙ none)).0, moved, at)
 
       compared : leb (j + size b C) d ≡ eq_vals (take (size b C) (drop j l)) (state_numbers b C τ)
       compared = rw (q, ← many) (diff-all j (drop j l) (state_numbers b C τ) (rw length-drop (omega (arith, many))))
@@ -121,14 +121,17 @@ module _ (s : List ℕ) (h : Header) (good : read s ≡ Ok h) (l : List ℤ) (i 
   abbrev judged_step : reply.Answer
   judged_step = enabled b flags number_here (drop (i + 1) l) i (held b σ)
 
-  module _ {y : Outcome} (e : y ≡ told (judge b number_here more (drop (i + 1) l) i)) where
-    pub step-stop : {v : Refusal} {x : Outcome} → y ≡ Err v → x ≡ Err v → x ≡ told judged_step
+  module _ {y : Outcome} (e : y ≡ giving (judge b number_here more (drop (i + 1) l) i) number_here) where
+    pub step-stop : {v : Refusal} → y ≡ Err v → judged_step ≡ refused v.number v.place
     unfolding enabled
-    step-stop stop u = rw (← z.is) (enabled-stop s h good l i more e met_here stop u)
+    step-stop stop = rw (← z.is) (enabled-stop s h good l i more e met_here stop)
 
-    module _ {m : ℕ} (none : y ≡ Ok m) {k : ℕ} (q : k ≡ number_or h.count (get_or l i (pos 0))) where
+    module _ {k : ℕ} (none : y ≡ Ok k) where
       same : number_here ≡ k
-      same = number_is s h good l i q
+      same = instance-clause s h good l i more e none
+
+      pub step-same : {x : Outcome} → x ≡ Ok k → x ≡ Ok number_here
+      step-same q = rw same q
 
       -- what `meets` asks
       pub step-there : (k < h.count) × (i + 1 + (clause_at b k).vars ≤ length l)
@@ -138,24 +141,27 @@ module _ (s : List ℕ) (h : Header) (good : read s ≡ Ok h) (l : List ℤ) (i 
         at-number : r ≡ met_here
         at-number = rw same p
 
-        pub step-met : {x : Outcome} → r ≡ true → x ≡ Ok 0 → x ≡ told judged_step
+        pub step-met : r ≡ true → judged_step ≡ ok
         unfolding enabled
-        step-met u v = rw (← z.is) (enabled-met s h good l i more e none met_here at-number u v)
+        step-met u = rw (← z.is) (enabled-met s h good l i more e none met_here at-number u)
 
-        pub step-unmet : {x : Outcome} → r ≡ false → x ≡ Err (refuse 16 i) → x ≡ told judged_step
+        pub step-unmet : r ≡ false → judged_step ≡ refused 16 i
         unfolding enabled
-        step-unmet u v = rw (← z.is) (enabled-unmet s h good l i more e none met_here at-number u v)
+        step-unmet u = rw (← z.is) (enabled-unmet s h good l i more e none met_here at-number u)
 
   -- ---- after it
 
-  module _ {y : Outcome} (e : y ≡ told judged_step) where
+  module _ {y : Outcome} (e : y ≡ giving judged_step number_here) where
     -- it may be taken, and the code goes on with the state τ, in which its head is put
-    module _ {m : ℕ} (none : y ≡ Ok m) {k : ℕ} (q : k ≡ number_or h.count (get_or l i (pos 0))) where
-      here : number_here ≡ k
-      here = number_is s h good l i q
+    module _ {k : ℕ} (none : y ≡ Ok k) where
+      both : (judged_step ≡ ok) × (number_here ≡ k)
+      both = given b flags number_here (drop (i + 1) l) i (held b σ) (sym e ∙ none)
 
       judged-ok : judged_step ≡ ok
-      judged-ok = enabled_ok b flags number_here (drop (i + 1) l) i (held b σ) (sym e ∙ none)
+      judged-ok = both.0
+
+      here : number_here ≡ k
+      here = both.1
 
       pub on_stands : (k < h.count) × (i + 1 + (clause_at b k).vars + more ≤ length l)
       unfolding enabled
@@ -220,27 +226,27 @@ module _ (s : List ℕ) (h : Header) (good : read s ≡ Ok h) (f : Fact) (l : Li
     pub going-missed : {x : Outcome} {r : Bool} → length l ≤ i → r ≡ has system flags f (held system σ) → r ≡ false → x ≡ Err (refuse 17 (length l)) → x ≡ told whole_walk
     going-missed stop p q e = via g.due (due-end system flags f l i _ g.there stop (end-missed system flags _ f _ p q e))
 
-    module _ (lt : i < length l) {v : Outcome} (e : v ≡ told (enabled system flags (number_in s h l i) (drop (i + 1) l) i (held system σ))) where
+    module _ (lt : i < length l) {v : Outcome} (e : v ≡ giving (enabled system flags (number_in s h l i) (drop (i + 1) l) i (held system σ)) (number_in s h l i)) where
       -- a step is refused
       pub going-stop : {u : Refusal} {x : Outcome} → v ≡ Err u → x ≡ Err u → x ≡ told whole_walk
       going-stop stop q = via g.due (due-stop system flags f l i _ lt e stop q)
 
       -- a step is taken, by clause k: its head is put into the state, and the next state is due
-      module _ {m : ℕ} (none : v ≡ Ok m) {k : ℕ} (q : k ≡ number_or h.count (get_or l i (pos 0))) {row : Row} (w : IsRow s h k row)
+      module _ {k : ℕ} (none : v ≡ Ok k) {row : Row} (w : IsRow s h k row)
           {τ : code.State} (a : τ.flags ≡ set σ.flags (head system (step_at system k (drop (i + 1) l))).rel true) (b : τ.rows ≡ row_put (head system (step_at system k (drop (i + 1) l))) σ.rows)
           {d : ℕ} (y : d ≡ first_diff (i + 1 + row.variables) (drop (i + 1 + row.variables) l) (state_numbers system flags (held system τ))) where
         moved : held system τ ≡ write flags (head system (step_at system (number_in s h l i) (drop (i + 1) l))) (held system σ)
-        moved = on-moved s h good l i z lt σ e none q w g.flags_there g.rows_there a b
+        moved = on-moved s h good l i z lt σ e none w g.flags_there g.rows_there a b
 
         at : i + 1 + row.variables ≡ i + 1 + (clause_at system (number_in s h l i)).vars
-        at = on-at s h good l i z lt σ e none q w
+        at = on-at s h good l i z lt σ e none w
 
         many : length (state_numbers system flags (held system τ)) ≡ size system flags
         unfolding size
         many = state-many system.arities τ.flags τ.rows system
 
         fits : i + 1 + row.variables + more ≤ length l
-        fits = on_fits s h good l i z lt σ e none q w
+        fits = on_fits s h good l i z lt σ e none w
 
         pub going-differs : {x : Outcome} → d < i + 1 + row.variables + more → x ≡ Err (refuse 19 d) → x ≡ told whole_walk
         going-differs c v = via g.due (due-differs system flags f l i _ lt e none _ moved at many (omega (arith, fits, z.is)) y z.is c v)

@@ -32,6 +32,7 @@ impl<'a> Claim<'a> {
     ghost use Rattle.lists.specs.Derivation.{goal};
     ghost use Rattle.lists.specs.Trace.{judge_first, first_of};
     ghost use Rattle.lists.specs.Due.{walk_due};
+    ghost use Rattle.reply.specs.Answer.{giving};
     ghost use Rattle.instance.specs.Values.{number_in};
     ghost use Rattle.state.specs.State.{held};
     ghost use Rattle.trace.specs.Step.{enabled};
@@ -56,15 +57,14 @@ impl<'a> Claim<'a> {
         }
     }
 
-    // 12 to 16: whether a step may begin at i in this state
+    // 12 to 16: the clause of the step that begins at i in this state
     fn step_at(&self, i: usize, state: &State) -> Answer
         requires { i < length self.now.list.now }
-        ensures { result ≡ told (enabled (meant self.now.table.now.book) flags (number_in self.now.table.now.book.bytes.now self.now.table.now.book.header self.now.list.now i) (drop (i + 1) self.now.list.now) i (held (meant self.now.table.now.book) state.now)) }
+        ensures { result ≡ giving (enabled (meant self.now.table.now.book) flags (number_in self.now.table.now.book.bytes.now self.now.table.now.book.header self.now.list.now i) (drop (i + 1) self.now.list.now) i (held (meant self.now.table.now.book) state.now)) (number_in self.now.table.now.book.bytes.now self.now.table.now.book.header self.now.list.now i) }
     {
-        instance::instance_at(self.table, self.list, i, self.size)?;
-        let k = instance::number_at(self.list, i, self.table.book.header.count);
+        let k = instance::instance_at(self.table, self.list, i, self.size)?;
         if state.meets(self.table, k, self.list, i + 1) {
-            Ok(0)
+            Ok(k)
         } else {
             refuse(16, i)
         }
@@ -80,8 +80,7 @@ impl<'a> Claim<'a> {
         let mut i = self.size;
         // steps differ in length, and an iterator over them would be longer than this
         while i < self.list.len() {
-            self.step_at(i, &state)?;
-            let k = instance::number_at(self.list, i, book.header.count);
+            let k = self.step_at(i, &state)?;
             let row = self.table.row(k);
             state.put(self.table, k, self.list, i + 1);
             let at = i + 1 + row.variables as usize;

@@ -1,4 +1,4 @@
-use Rattle.asked.proofs.Judge.{handed}
+use Rattle.reply.specs.Then.{handed}
 use Rattle.book.proofs.Calls.{means, room-stop, room-on}
 use Rattle.convert.proofs.Laws.{replies-length, derivation-on, derivation-stop, trace-walk, trace-small}
 use Rattle.convert.proofs.to_derivation.Goals as goal

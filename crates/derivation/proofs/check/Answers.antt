@@ -1,6 +1,6 @@
 use Rattle.std.proofs.Common.{refl}
 use Rattle.reply.specs.Answer.{answers}
-use Rattle.asked.proofs.Judge.{handed}
+use Rattle.reply.specs.Then.{handed}
 use Rattle.book.proofs.Calls.{means, book-stop, book-on}
 use Rattle.derivation.specs.Answer.{answer}
 use Rattle.derivation.proofs.Laws.{plain-stop, check_done}

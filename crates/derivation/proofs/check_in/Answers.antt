@@ -1,5 +1,6 @@
 use Rattle.lists.specs.Derivation.{check_derivation}
-use Rattle.asked.proofs.Judge.{handed, goal-full}
+use Rattle.asked.proofs.Judge.{goal-full}
+use Rattle.reply.specs.Then.{handed}
 use Rattle.derivation.proofs.Laws.{counted_stop, counted-on}
 use Rattle.derivation.proofs.check_in.Goals as goal
 

@@ -1,5 +1,5 @@
 use Rattle.reply.specs.Answer.{answers}
-use Rattle.asked.proofs.Judge.{handed}
+use Rattle.reply.specs.Then.{handed}
 use Rattle.book.proofs.Calls.{means, book-stop, book-on}
 use Rattle.trace.specs.Answer.{answer}
 use Rattle.trace.proofs.check.Goals as goal

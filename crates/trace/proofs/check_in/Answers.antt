@@ -1,6 +1,7 @@
 use Rattle.lists.specs.Trace.{check_trace}
 use Rattle.book.specs.Arities.{relations-are}
-use Rattle.asked.proofs.Judge.{handed, then-stop, then-on, goal-below, goal-full}
+use Rattle.asked.proofs.Judge.{then-stop, then-on, goal-below, goal-full}
+use Rattle.reply.specs.Then.{handed}
 use Rattle.trace.proofs.First.{first-long, whole-stop, whole-on}
 use Rattle.trace.proofs.check_in.Goals as goal
 

@@ -3,9 +3,9 @@ use Rattle.lists.specs.Derivation.{goal}
 use Rattle.lists.specs.Instance.{clause_at}
 use Rattle.book.specs.Held.{meant}
 use Rattle.state.proofs.Shape.{size_is}
-use Rattle.asked.proofs.Judge.{handed}
+use Rattle.reply.specs.Then.{handed}
 use Rattle.trace.proofs.Laws.{on_stands, on_fits, going_start, going_done, going-missed, going-stop, going-differs, going_on}
-use Rattle.trace.proofs.Claim.walk.Goals.{After-number_at-k}
+use Rattle.trace.proofs.Claim.walk.Goals.{In_ok-k}
 use Rattle.trace.proofs.Claim.walk.Goals as goals
 
 pub first-state-requires : goals.first-state-requires
@@ -19,42 +19,42 @@ loop-i-init c =
     going_start _ _ t.table.now.book.accepted (goal t.relation t.values.now) t.list.now t.sized c.relations.ensures c.requires
     c.first-state.ensures.flags c.first-state.ensures.rows
 
-pub returns-in_err-step_at : goals.returns-in_err-step_at
-returns-in_err-step_at c =
+pub returns-in_err-k : goals.returns-in_err-k
+returns-in_err-k c =
     let t = c.args.self.now in
     going-stop _ _ t.table.now.book.accepted _ t.list.now t.sized c.loop-i.invariant c.loop-i-test.true c.step_at.ensures
-    c.in_err-step_at.was (handed _ c.from_residual.ensures)
+    c.in_err-k.was (handed _ c.from_residual.ensures)
 
 -- the step is taken by clause k: it is there, and so is its next state
-stands : (c : After-number_at-k) → (c.number_at-k.result < c.args.self.now.table.now.book.header.count)
-    × (c.loop-i.i + 1 + (clause_at (meant c.args.self.now.table.now.book) c.number_at-k.result).vars + c.args.self.now.size ≤ length c.args.self.now.list.now)
+stands : (c : In_ok-k) → (c.in_ok-k.k < c.args.self.now.table.now.book.header.count)
+    × (c.loop-i.i + 1 + (clause_at (meant c.args.self.now.table.now.book) c.in_ok-k.k).vars + c.args.self.now.size ≤ length c.args.self.now.list.now)
 stands c =
     let t = c.args.self.now in
-    on_stands _ _ t.table.now.book.accepted t.list.now _ t.sized c.loop-i-test.true _ c.step_at.ensures c.in_ok-step_at.was c.number_at-k.ensures
+    on_stands _ _ t.table.now.book.accepted t.list.now _ t.sized c.loop-i-test.true _ c.step_at.ensures c.in_ok-k.was
 
 pub put-requires : goals.put-requires
-put-requires c = let w = stands (goals.at.put-requires c).After-number_at-k in (w.0, omega (arith, w.1))
+put-requires c = let w = stands (goals.at.put-requires c).In_ok-k in (w.0, omega (arith, w.1))
 
 pub row-row-requires : goals.row-row-requires
-row-row-requires c = (stands (goals.at.row-row-requires c).After-number_at-k).0
+row-row-requires c = (stands (goals.at.row-row-requires c).In_ok-k).0
 
 pub differs-d-requires : goals.differs-d-requires
 differs-d-requires c =
     let t = c.args.self.now in
-    let w = on_fits _ _ t.table.now.book.accepted t.list.now _ t.sized c.loop-i-test.true _ c.step_at.ensures c.in_ok-step_at.was c.number_at-k.ensures c.row-row.ensures in
+    let w = on_fits _ _ t.table.now.book.accepted t.list.now _ t.sized c.loop-i-test.true _ c.step_at.ensures c.in_ok-k.was c.row-row.ensures in
     omega (arith, w, t.sized.is)
 
 pub returns-then-d-at : goals.returns-then-d-at
 returns-then-d-at c =
     let t = c.args.self.now in
     going-differs _ _ t.table.now.book.accepted _ t.list.now t.sized c.loop-i.invariant c.loop-i-test.true c.step_at.ensures
-    c.in_ok-step_at.was c.number_at-k.ensures c.row-row.ensures c.put.ensures.flags c.put.ensures.rows c.differs-d.ensures c.if-d-at.true c.refuse.ensures
+    c.in_ok-k.was c.row-row.ensures c.put.ensures.flags c.put.ensures.rows c.differs-d.ensures c.if-d-at.true c.refuse.ensures
 
 pub loop-i-preserved : goals.loop-i-preserved
 loop-i-preserved c =
     let t = c.args.self.now in
     going_on _ _ t.table.now.book.accepted _ t.list.now t.sized c.loop-i.invariant c.loop-i-test.true c.step_at.ensures
-    c.in_ok-step_at.was c.number_at-k.ensures c.row-row.ensures c.put.ensures.flags c.put.ensures.rows c.differs-d.ensures c.if-d-at.false
+    c.in_ok-k.was c.row-row.ensures c.put.ensures.flags c.put.ensures.rows c.differs-d.ensures c.if-d-at.false
 
 pub returns-then-holds : goals.returns-then-holds
 returns-then-holds c =
