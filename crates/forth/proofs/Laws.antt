@@ -1,83 +1,59 @@
 -- The laws of writing a state's numbers, and of the first state's.
-use mathlib.Core.Path.{◌≡◌, refl, sym, ap, ◌∙◌}
-use mathlib.Core.Bool.{Bool, false}
-use mathlib.Core.List.{List, [], ◌∷◌, ◌++◌, map, map-append, append_assoc, append-nil}
+use mathlib.Core.Path.{◌≡◌, refl, ap, ◌∙◌}
+use mathlib.Core.Bool.{Bool, true, false}
+use mathlib.Core.List.{List, [], ◌∷◌, ◌++◌, map}
 use Prim.Native.Nat.{ℕ, zero, suc, ◌+◌, ◌^◌, ◌≤◌, ◌<◌}
 use native.Mathlib.Nat.{not-suc-le-zero, le_of_suc-le-suc}
 use native.Mathlib.Numerals.{add-one}
 use native.Mathlib.Omega.{arith}
-use lib.ListN.{length, get_or, set, take, drop, replicate, length-append}
-use lib.Seq.{length-take-le, take_all}
+use lib.ListN.{length, get_or, set, take, drop, replicate}
+use lib.Seq.{take_all, drop-cons}
+use Rattle.std.proofs.lemmas.List.{length-take}
 use lib.IntN.{ℤ, pos}
 use lib.Signed.{mag}
 use mir.Syntax.{w32}
-use mir.Val.{hbits, to_z, of_z}
+use mir.Val.{hbits, to_z, of_z, bool_byte}
 use Rattle.whole.specs.Whole.{own}
 use Rattle.meaning.specs.Book.{Book, Window, place_window}
 use Rattle.meaning.specs.State.{Control, flags, bit, low_row, low_rows, first}
-use Rattle.lists.specs.Trace.{flat, sum}
+use Rattle.lists.specs.Trace.{flat, state_numbers}
 use Rattle.state.specs.State.{front, rows_of, placed, state_of}
-use Rattle.state.specs.Laws.{front-take, front-more, front-replicate, bits-length}
-use Rattle.state.proofs.Shape.{sum_more}
-use Rattle.steps.specs.Put.{Put, put-more, put-join, put-none, put_as}
+use Rattle.state.specs.Laws.{front-take, rows-cons, front-more, front-replicate}
+use Rattle.state.proofs.Shape.{arity-cons, arity-none, relations-few}
+use Rattle.state.proofs.Laws.{numbers-are}
+use Rattle.book.specs.declared.Header.{Header}
+use Rattle.book.specs.Read.{read}
+use Rattle.book.specs.Meaning.{book_in}
+use Rattle.std.specs.Prelude.{Ok}
 
 -- ---- flags
 
-front-snoc : {A : Type 0} (d : A) (n : ℕ) (l : List A) → front d (suc n) l ≡ front d n l ++ (get_or l n d ∷ [])
-unfolding front
-front-snoc d zero [] = refl
-front-snoc d zero (x ∷ l) = refl
-front-snoc d (suc n) [] = ap (◌∷◌ d) (front-snoc d n [])
-front-snoc d (suc n) (x ∷ l) = ap (◌∷◌ x) (front-snoc d n l)
+-- a flag's number, as the code has it
+bit-is : (f : Bool) → to_z w32 (bool_byte f) ≡ bit f
+bit-is true = refl
+bit-is false = refl
 
-pub flags-more : (d e : List ℤ) (at j : ℕ) (fs : List Bool) {x : ℤ} → Put d e at (map bit (front false j fs)) → at + j < length d → mag x < 2 ^ hbits w32 → x ≡ bit (get_or fs j false)
-    → Put d (set e (at + j) (to_z w32 (of_z w32 x))) at (map bit (front false (j + 1) fs))
-flags-more d e at j fs {x} w h m q =
-    let n = bits-length j fs in
-    let all : map bit (front false j fs) ++ (x ∷ []) ≡ map bit (front false (j + 1) fs) = rw (add-one j, front-snoc false j fs, map-append, q) in
-    put_as (rw (own w32 x m) (rw n at (put-more w x (omega (arith, n))))) all
+pub flags-next : (fs : List Bool) (j : ℕ) → j < length fs → map bit (drop j fs) ≡ (to_z w32 (bool_byte (get_or fs j false)) ∷ []) ++ map bit (drop (j + 1) fs)
+flags-next fs j h = rw (drop-cons fs j false h, add-one j, bit-is)
 
 -- ---- places
 
-flat-snoc : (vs : List (List ℤ)) (v : List ℤ) → flat (vs ++ (v ∷ [])) ≡ flat vs ++ v
+pub places-next : (ns : List ℕ) (vs : List (List ℤ)) (r : ℕ) {m : ℕ} → r < length ns → m ≡ get_or ns r 0 → length (take m (get_or vs r [])) ≡ m
+    → flat (rows_of (drop r ns) (drop r vs)) ≡ take m (get_or vs r []) ++ flat (rows_of (drop (r + 1) ns) (drop (r + 1) vs))
 unfolding flat
-flat-snoc [] v = append-nil v
-flat-snoc (u ∷ vs) v = ap (λ (t : List ℤ). u ++ t) (flat-snoc vs v) ∙ sym (append_assoc u (flat vs) v)
+places-next ns vs r {m} h k long =
+    let all : m ≤ length (get_or vs r []) = omega (arith, long, length-take m (get_or vs r [])) in
+    rw (arity-cons ns r h, add-one r, rows-cons, ← k, front-take (pos 0) m (get_or vs r []) all) refl
 
-rows_snoc : (ns : List ℕ) (vs : List (List ℤ)) (r : ℕ) → r < length ns → rows_of (take (suc r) ns) vs ≡ rows_of (take r ns) vs ++ (front (pos 0) (get_or ns r 0) (get_or vs r []) ∷ [])
-unfolding rows_of
-rows_snoc [] vs r h = absurd (not-suc-le-zero h)
-rows_snoc (n ∷ ns) [] zero h = refl
-rows_snoc (n ∷ ns) (v ∷ vs) zero h = refl
-rows_snoc (n ∷ ns) [] (suc r) h = ap (◌∷◌ (front (pos 0) n [])) (rows_snoc ns [] r (le_of_suc-le-suc h))
-rows_snoc (n ∷ ns) (v ∷ vs) (suc r) h = ap (◌∷◌ (front (pos 0) n v)) (rows_snoc ns vs r (le_of_suc-le-suc h))
+pub places-none : (ns : List ℕ) (vs : List (List ℤ)) {r : ℕ} → length ns ≤ r → flat (rows_of (drop r ns) (drop r vs)) ≡ []
+unfolding flat rows_of
+places-none ns vs {r} h = rw (arity-none ns r h) refl
 
--- the places of the first r of relations of the arities ns are written, up to p
-pub record Placing (ns : List ℕ) (vs : List (List ℤ)) (d : List ℤ) (at : ℕ) (e : List ℤ) (p r : ℕ) : Type 0 where
-  pub put : Put d e at (flat (rows_of (take r ns) vs))
-  pub place : p ≡ at + length (flat (rows_of (take r ns) vs))
-  pub fits : p + sum (drop r ns) ≤ length d
-  pub few : r ≤ length ns
+-- ---- a state
 
-module _ (ns : List ℕ) (vs : List (List ℤ)) (d : List ℤ) (at : ℕ) where
-  pub placing-first : at + sum ns ≤ length d → Placing ns vs d at d at 0
-  unfolding rows_of flat
-  placing-first h = record { put = put-none d at (omega arith); place = omega arith; fits = h; few = omega arith }
-
-  module _ {e : List ℤ} {p r : ℕ} (g : Placing ns vs d at e p r) where
-    pub placing-more : {f : List ℤ} {m : ℕ} → r < length ns → m ≡ get_or ns r 0 → m ≤ length (get_or vs r []) → Put e f p (take m (drop 0 (get_or vs r []))) → Placing ns vs d at f (p + m) (r + 1)
-    placing-more {f} {m} h k long u =
-        let part : take m (get_or vs r []) ≡ front (pos 0) m (get_or vs r []) = sym (front-take (pos 0) m (get_or vs r []) long) in
-        let all : flat (rows_of (take (r + 1) ns) vs) ≡ flat (rows_of (take r ns) vs) ++ take m (get_or vs r []) = rw (add-one r, rows_snoc ns vs r h, flat-snoc, ← k, part) in
-        record {
-          put = put_as (put-join g.put (rw g.place at u)) (sym all);
-          place = rw (all, length-append) (omega (arith, g.place, length-take-le m (get_or vs r []) long));
-          fits = omega (arith, g.fits, sum_more ns r h, k);
-          few = omega arith;
-        }
-
-    pub placing-all : length ns ≤ r → Put d e at (flat (rows_of ns vs))
-    placing-all h = rw (take_all r ns h) at g.put
+pub state-parts : (s : List ℕ) (h : Header) (fs : List Bool) (vs : List (List ℤ)) {n : ℕ} → read s ≡ Ok h → n ≡ h.relations → length fs ≡ 16
+    → state_numbers (book_in s h) flags (state_of (book_in s h).arities fs vs) ≡ map bit (take n fs) ++ flat (rows_of (book_in s h).arities vs)
+state-parts s h fs vs {n} good k long = rw (← (front-take false n fs (omega (arith, relations-few s h good)))) (numbers-are s h fs vs n good k)
 
 -- ---- the first state: every place at the low end of its window
 

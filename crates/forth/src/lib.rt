@@ -1,15 +1,14 @@
 // Derivation to trace: the trace's numbers written in order.
 #![tactic(auto)]
 
-ghost use Rattle.std.specs.Prelude.{◌≡◌, false, map, ◌++◌, ◌+◌, ◌<◌, ◌≤◌, length, take, drop, replicate};
+ghost use Rattle.std.specs.Prelude.{◌≡◌, false, map, ◌≤◌, length, replicate};
 ghost use Rattle.meaning.specs.Book.{place_window};
 ghost use Rattle.meaning.specs.State as meanings;
-ghost use Rattle.meaning.specs.State.{bit, low_row, low_rows, first};
-ghost use Rattle.lists.specs.Trace.{flat, sum, size as state_size, state_numbers};
+ghost use Rattle.meaning.specs.State.{bit, low_row, low_rows};
+ghost use Rattle.lists.specs.Trace.{flat, state_numbers};
 ghost use Rattle.lists.specs.Convert.{as_trace};
-ghost use Rattle.lists.specs.Places.{trace_due};
 ghost use Rattle.book.specs.Held.{meant};
-ghost use Rattle.state.specs.State.{front, rows_of, held, Sized};
+ghost use Rattle.state.specs.State.{rows_of, held, Sized};
 ghost use Rattle.steps.specs.Put.{Put};
 ghost use Rattle.steps.specs.Walk.{Walk};
 
@@ -17,63 +16,54 @@ use book::Book;
 use state::State;
 use table::Table;
 
-// ---- a state written
-
-// a flag's number
-fn number_of(flag: bool) -> i32
-    ensures { result ≡ bit flag }
-{
-    flag as i32
-}
-
-// the first n flags
-fn write_flags(flags: &[bool; 16], n: usize, room: &mut [i32], at: usize)
-    requires { (n ≤ 16) × (at + n ≤ length room.old) }
-    ensures { Put room.old room.new at (map bit (front false n flags.now)) }
-{
-    for j in 0..n {
-        room[at + j] = number_of(flags[j]);
-    }
-}
-
-// the places of all relations
-fn write_places(book: &Book, state: &State, room: &mut [i32], at: usize)
-    requires { at + sum (meant book.now).arities ≤ length room.old }
-    ensures { Put room.old room.new at (flat (rows_of (meant book.now).arities state.now.rows)) }
-{
-    let mut p = at;
-    for r in 0..book.relations() {
-        let many = book.arity(r);
-        steps::copy(&state.rows[r], 0, many, room, p);
-        p += many;
-    }
-}
-
-// a state's numbers
-fn write_state(book: &Book, state: &State, room: &mut [i32], at: usize)
-    requires { at + state_size (meant book.now) meanings.flags ≤ length room.old }
-    ensures { Put room.old room.new at (state_numbers (meant book.now) meanings.flags (held (meant book.now) state.now)) }
-{
-    let n = book.relations();
-    write_flags(&state.flags, n, room, at);
-    write_places(book, state, room, at + n);
-}
-
-// a step's n numbers, which begin at i, and the state after it
-fn write_move(
-    book: &Book,
-    list: &[i32],
-    i: usize,
-    n: usize,
-    state: &State,
-    room: &mut [i32],
+// A lent room, and where writing stands in it.
+#[derive(Drop)]
+struct Writer<'a> {
+    room: &'a mut [i32],
     at: usize,
-)
-    requires { (i + n ≤ length list.now) × (at + n + state_size (meant book.now) meanings.flags ≤ length room.old) }
-    ensures { Put room.old room.new at (take n (drop i list.now) ++ state_numbers (meant book.now) meanings.flags (held (meant book.now) state.now)) }
-{
-    steps::copy(list, i, n, room, at);
-    write_state(book, state, room, at + n);
+}
+
+impl<'a> Writer<'a> {
+    ghost use Rattle.forth.specs.Puts.{HasRoom, Puts};
+
+    // all numbers of a list
+    fn numbers(&mut self, numbers: &[i32])
+        requires { HasRoom self.old numbers.now }
+        ensures { Puts self.old self.new numbers.now }
+    {
+        steps::copy(numbers, 0, numbers.len(), self.room, self.at);
+        self.at += numbers.len();
+    }
+
+    // each flag as a number
+    fn flags(&mut self, flags: &[bool])
+        requires { HasRoom self.old (map bit flags.now) }
+        ensures { Puts self.old self.new (map bit flags.now) }
+    {
+        for flag in flags {
+            self.numbers(&[*flag as i32]);
+        }
+    }
+
+    // the places of all relations
+    fn places(&mut self, book: &Book, state: &State)
+        requires { HasRoom self.old (flat (rows_of (meant book.now).arities state.now.rows)) }
+        ensures { Puts self.old self.new (flat (rows_of (meant book.now).arities state.now.rows)) }
+    {
+        for r in 0..book.relations() {
+            let many = book.arity(r);
+            self.numbers(&state.rows[r][..many]);
+        }
+    }
+
+    // a state's numbers
+    fn state(&mut self, book: &Book, state: &State)
+        requires { HasRoom self.old (state_numbers (meant book.now) meanings.flags (held (meant book.now) state.now)) }
+        ensures { Puts self.old self.new (state_numbers (meant book.now) meanings.flags (held (meant book.now) state.now)) }
+    {
+        self.flags(&state.flags[..book.relations()]);
+        self.places(book, state);
+    }
 }
 
 // ---- the first state: no flag is set, and each place is at the low end of its window
@@ -112,33 +102,23 @@ fn low_state(book: &Book) -> State
 
 // ---- the walk
 
-// the steps in order, each with the state after it, behind the first state
-fn write_steps(table: &Table, list: &[i32], size: usize, room: &mut [i32])
-    requires walk { Walk table.now.book.bytes.now table.now.book.header list.now 0 0 }
-    requires sized { Sized (meant table.now.book) meanings.flags size }
-    requires fits { size + length (trace_due (meant table.now.book) meanings.flags list.now 0 (first (meant table.now.book) meanings.flags)) ≤ length room.old }
-    ensures { Put room.old room.new size (trace_due (meant table.now.book) meanings.flags list.now 0 (first (meant table.now.book) meanings.flags)) }
-{
-    let mut state = low_state(&table.book);
-    let mut at = size;
-    let mut i = 0;
-    while i < list.len() {
-        let k = instance::number_at(list, i, table.book.header.count);
-        let n = 1 + table.row(k).variables as usize;
-        state.put(table, k, list, i + 1);
-        write_move(&table.book, list, i, n, &state, room, at);
-        at = at + n + size;
-        i += n;
-    }
-}
-
-// Writes the trace's numbers to the front of the room.
+// Writes the trace's numbers to the front of the room: the first state, then each step in order with the state after it.
 pub fn write(table: &Table, list: &[i32], size: usize, room: &mut [i32])
     requires walk { Walk table.now.book.bytes.now table.now.book.header list.now 0 0 }
     requires sized { Sized (meant table.now.book) meanings.flags size }
     requires fits { length (as_trace (meant table.now.book) meanings.flags list.now) ≤ length room.old }
     ensures { Put room.old room.new 0 (as_trace (meant table.now.book) meanings.flags list.now) }
 {
-    write_state(&table.book, &low_state(&table.book), room, 0);
-    write_steps(table, list, size, room);
+    let mut out = Writer { room, at: 0 };
+    let mut state = low_state(&table.book);
+    out.state(&table.book, &state);
+    let mut i = 0;
+    while i < list.len() {
+        let k = instance::number_at(list, i, table.book.header.count);
+        let n = 1 + table.row(k).variables as usize;
+        state.put(table, k, list, i + 1);
+        out.numbers(&list[i..i + n]);
+        out.state(&table.book, &state);
+        i += n;
+    }
 }

@@ -1,24 +1,60 @@
-use Rattle.std.proofs.Common.{arith}
-use Rattle.steps.specs.Put.{put-length}
-use Rattle.forth.proofs.Going.{trace-many, low-first, trace-put}
+use Rattle.std.proofs.Common.{refl, length-set, rules, ◌∙◌}
+use Rattle.lists.specs.Places.{trace-due-all}
+use Rattle.state.specs.Laws as state
+use Rattle.forth.proofs.Left.{front-fits, puts-join, put-back}
+use Rattle.forth.proofs.Going.{low-first, first-state-fits, going-first, going-all, step-below, step_room, numbers-room, numbers-fits, state-fits, going-more}
 use Rattle.forth.proofs.write.Goals as goal
 
-pub write_state-requires : goal.write_state-requires
-write_state-requires c =
-    let a = c.args in
-    omega (arith, trace-many _ _ a.list.now a.table.now.book.accepted, c.requires.fits)
+pub state-requires : goal.state-requires
+state-requires c = rw (low-first _ _ c.args.table.now.book.accepted _ c.low_state-state.ensures) (first-state-fits _ _ _ (front-fits refl c.requires.fits))
 
-pub write_steps-requires : goal.write_steps-requires
-write_steps-requires c =
-    let a = c.args in
-    let p = c.requires in
-    record {
-      walk = p.walk;
-      sized = p.sized;
-      fits = omega (arith, trace-many _ _ a.list.now a.table.now.book.accepted, p.sized.is, p.fits, put-length c.write_state.ensures);
-    }
+pub loop-i-init : goal.loop-i-init
+loop-i-init c =
+    let w = c.low_state-state.ensures in
+    let low = low-first _ _ c.args.table.now.book.accepted _ w in
+    (rw low (going-first (front-fits refl c.requires.fits) (rw low at c.state.ensures)), rw w.0, rw w.1)
+
+pub row-requires : goal.row-requires
+row-requires c =
+    let t = c.loop-i in
+    step-below _ _ c.args.table.now.book.accepted c.requires.walk t.state t.invariant.0 c.loop-i-test.true c.number_at-k.ensures
+
+pub put-requires : goal.put-requires
+put-requires c =
+    let t = c.loop-i in
+    let good = c.args.table.now.book.accepted in (
+      step-below _ _ good c.requires.walk t.state t.invariant.0 c.loop-i-test.true c.number_at-k.ensures,
+      step_room _ _ good c.requires.walk t.state t.invariant.0 c.loop-i-test.true c.number_at-k.ensures,
+    )
+
+pub slice_bounds-numbers-end : goal.slice_bounds-numbers-end
+slice_bounds-numbers-end c =
+    let t = c.loop-i in
+    let room = numbers-room _ _ c.args.table.now.book.accepted c.requires.walk t.state t.invariant.0 c.loop-i-test.true c.number_at-k.ensures c.row.ensures in
+    search rules
+
+pub numbers-requires : goal.numbers-requires
+numbers-requires c =
+    let t = c.loop-i in
+    numbers-fits _ _ c.args.table.now.book.accepted c.requires.walk t.state t.invariant.0 c.loop-i-test.true c.number_at-k.ensures c.row.ensures
+    t.invariant.1 t.invariant.2 c.put.new.self c.put.ensures.flags c.put.ensures.rows
+
+pub state-requires-in-loop-i : goal.state-requires-in-loop-i
+state-requires-in-loop-i c =
+    let t = c.loop-i in
+    state-fits _ _ c.args.table.now.book.accepted c.requires.walk t.state t.invariant.0 c.loop-i-test.true c.number_at-k.ensures c.row.ensures
+    t.invariant.1 t.invariant.2 c.put.new.self c.put.ensures.flags c.put.ensures.rows c.numbers.ensures
+
+pub loop-i-preserved : goal.loop-i-preserved
+loop-i-preserved c =
+    let t = c.loop-i in (
+      going-more _ _ c.args.table.now.book.accepted c.requires.walk t.state t.invariant.0 c.loop-i-test.true c.number_at-k.ensures c.row.ensures
+          t.invariant.1 t.invariant.2 c.put.new.self c.put.ensures.flags c.put.ensures.rows c.numbers.ensures c.state-in-loop-i.ensures,
+      rw (c.put.ensures.flags, length-set) t.invariant.1,
+      rw c.put.ensures.rows (state.put-length _ t.state.rows ∙ t.invariant.2),
+    )
 
 pub returns : goal.returns
 returns c =
-    let good = c.args.table.now.book.accepted in
-    trace-put _ _ c.args.list.now good _ c.low_state.result c.requires.sized (low-first _ _ good _ c.low_state.ensures) c.write_state.ensures c.write_steps.ensures
+    let low = low-first _ _ c.args.table.now.book.accepted _ c.low_state-state.ensures in
+    rw (trace-due-all _ _ _) (put-back (puts-join (rw low at c.state.ensures) (going-all c.loop-i.invariant.0 c.loop-i-test.false)) (search rules))
