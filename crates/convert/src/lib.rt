@@ -71,7 +71,7 @@ fn traced(table: &Table, list: &[i32], steps: usize, room: &mut [i32]) -> reply:
     if room.len() < all {
         return refuse(9, all);
     }
-    forth::write(table, list, size, room);
+    forth::write(table, list, room);
     Ok(all)
 }
 

@@ -5,7 +5,7 @@ use mathlib.Core.List.{List, ◌++◌}
 use Prim.Native.Nat.{ℕ, ◌+◌, ◌-◌, ◌≤◌, ◌<◌}
 use native.Mathlib.Omega.{arith}
 use lib.ListN.{length, get_or, set, take, drop, replicate}
-use lib.IntN.{ℤ, pos}
+use lib.IntN.{ℤ}
 use Rattle.meaning.specs.Book.{Book, Fact, Instance, place_window, head}
 use Rattle.meaning.specs.State.{Control, State, flags, write, low_rows, first}
 use Rattle.lists.specs.Trace.{state_numbers}
@@ -18,8 +18,8 @@ use Rattle.book.specs.Read.{read}
 use Rattle.book.specs.Meaning.{book_in}
 use Rattle.table.specs.declared.Row.{Row}
 use Rattle.table.specs.Table.{IsRow}
-use Rattle.instance.specs.Values.{number_or, number_in}
-use Rattle.instance.proofs.Laws.{number_is, values_length}
+use Rattle.instance.specs.Values.{number_in}
+use Rattle.instance.proofs.Laws.{values_length}
 use Rattle.instance.proofs.Atoms.{head_at, head-there}
 use Rattle.state.specs.declared.State as code
 use Rattle.state.specs.State.{state_of, held, row_put}
@@ -28,7 +28,7 @@ use Rattle.state.proofs.Shape.{relations-few, arities-few, arities-small}
 use Rattle.forth.specs.declared.Writer.{Writer}
 use Rattle.forth.specs.Puts.{HasRoom, Puts}
 use Rattle.steps.specs.Walk.{Here, Walk}
-use Rattle.steps.proofs.Places.{here-at, here-below, here-row}
+use Rattle.steps.proofs.Places.{here-at}
 use Rattle.forth.proofs.Laws.{state-low}
 use Rattle.forth.proofs.Left.{first-fits, second-fits, Left, left-first, next-fits, left-more, left-none}
 use Rattle.std.specs.Prelude.{Ok}
@@ -76,18 +76,18 @@ module _ (s : List ℕ) (h : Header) (good : read s ≡ Ok h) (l : List ℤ) (j 
 
 module _ (s : List ℕ) (h : Header) (good : read s ≡ Ok h) {l : List ℤ} (walk : Walk s h l 0 0) (σ : code.State) {p q : Writer} {i : ℕ}
     (w : Going (book_in s h) flags l p q (held (book_in s h) σ) i) (inside : i < length l) where
-  step-here : Here s h l 0 i
+  pub step-here : Here s h l 0 i
   step-here = here-at s h l 0 walk w.number i w.place inside
 
   one : Instance (book_in s h) (step_here (book_in s h) l i)
   one = rw w.place (walk.steps w.number (rw w.place at inside)).0
 
-  module _ {k : ℕ} (x : k ≡ number_or h.count (get_or l i (pos 0))) where
+  module _ {k : ℕ} (x : k ≡ number_in s h l i) where
     same : number_in s h l i ≡ k
-    same = number_is s h good l i x
+    same = sym x
 
     pub step-below : k < h.count
-    step-below = here-below step-here x
+    step-below = rw same at step-here.there
 
     pub step_room : i + 1 + (clause_at (book_in s h) k).vars ≤ length l
     step_room = rw (← same) (omega (arith, step-here.whole))
@@ -97,7 +97,7 @@ module _ (s : List ℕ) (h : Header) (good : read s ≡ Ok h) {l : List ℤ} (wa
 
     module _ {r : Row} (v : IsRow s h k r) where
       vars : r.variables ≡ (clause_here (book_in s h) l i).vars
-      vars = sym (here-row step-here x v).vars
+      vars = let y = rw x at v in sym y.vars
 
       pub numbers-room : i + (1 + r.variables) ≤ length l
       numbers-room = omega (arith, vars, step-here.whole)

@@ -8,7 +8,7 @@ ghost use Rattle.meaning.specs.State.{bit, low_row, low_rows};
 ghost use Rattle.lists.specs.Trace.{flat, state_numbers};
 ghost use Rattle.lists.specs.Convert.{as_trace};
 ghost use Rattle.book.specs.Held.{meant};
-ghost use Rattle.state.specs.State.{rows_of, held, Sized};
+ghost use Rattle.state.specs.State.{rows_of, held};
 ghost use Rattle.steps.specs.Put.{Put};
 ghost use Rattle.steps.specs.Walk.{Walk};
 
@@ -103,9 +103,8 @@ fn low_state(book: &Book) -> State
 // ---- the walk
 
 // Writes the trace's numbers to the front of the room: the first state, then each step in order with the state after it.
-pub fn write(table: &Table, list: &[i32], size: usize, room: &mut [i32])
+pub fn write(table: &Table, list: &[i32], room: &mut [i32])
     requires walk { Walk table.now.book.bytes.now table.now.book.header list.now 0 0 }
-    requires sized { Sized (meant table.now.book) meanings.flags size }
     requires fits { length (as_trace (meant table.now.book) meanings.flags list.now) ≤ length room.old }
     ensures { Put room.old room.new 0 (as_trace (meant table.now.book) meanings.flags list.now) }
 {
@@ -114,7 +113,7 @@ pub fn write(table: &Table, list: &[i32], size: usize, room: &mut [i32])
     out.state(&table.book, &state);
     let mut i = 0;
     while i < list.len() {
-        let k = instance::number_at(list, i, table.book.header.count);
+        let k = instance::number_in(&table.book, list, i);
         let n = 1 + table.row(k).variables as usize;
         state.put(table, k, list, i + 1);
         out.numbers(&list[i..i + n]);

@@ -27,7 +27,7 @@ returns-then-room-all c =
 pub write-requires : goal.write-requires
 write-requires c =
     let p = c.requires in
-    let size = c.size-size.ensures in record { walk = p.walk; sized = size; fits = omega (arith, long-is p.long size.is, c.if-room-all.false) }
+    let size = c.size-size.ensures in record { walk = p.walk; fits = omega (arith, long-is p.long size.is, c.if-room-all.false) }
 
 pub returns : goal.returns
 returns c =
