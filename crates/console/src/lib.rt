@@ -1,7 +1,7 @@
 // What the programs read from standard input and write to standard output.
 #![tactic(auto)]
 
-ghost use Rattle.std.specs.Prelude.{◌+◌, ◌*◌, ◌≤◌, ◌<◌, ◌≡◌, ◌⊎◌, true, false, length, min, take, fold, IfOk, IfSome, IsNone};
+ghost use Rattle.std.specs.Prelude.{◌+◌, ◌*◌, ◌≤◌, ◌<◌, ◌≡◌, ◌⊎◌, true, false, length, min, take, fold, replicate, pos, IfOk, IfSome, IsNone};
 ghost use Rattle.std.specs.Io.KnownBytes.{Consumes, IsAtEnd};
 ghost use Rattle.console.specs.Console.{sum_on, again, form_of, Gives};
 
@@ -232,7 +232,9 @@ pub struct Space {
 }
 
 impl Space {
-    pub fn new() -> Space {
+    pub fn new() -> Space
+        ensures { (result.book ≡ replicate 60001 0) × (result.values ≡ replicate 32 (pos 0)) }
+    {
         Space {
             book: [0; 60001],
             values: [0; 32],
