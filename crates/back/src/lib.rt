@@ -133,7 +133,10 @@ impl<'a> Trace<'a> {
         ensures { Stepped (book_of self.now) self.now.list.now i w room.old result room.new }
     {
         let row = self.row_at(i);
-        if w.relation == Some(row.head.relation as usize) {
+        let Some(wanted) = w.relation else {
+            return w;
+        };
+        if row.head.relation as usize == wanted {
             let n = 1 + row.variables as usize;
             let at = write_step(self.list, i, n, w.at, room);
             return Wanted {

@@ -3,7 +3,7 @@
 ghost use Rattle.std.specs.Prelude.{◌≡◌, Ok};
 ghost use Rattle.book.specs.Read.{read};
 
-use crate::{Header, Window, entry, laid, place_window, read_book, variable_window};
+use crate::{Header, Window, arity_of, place_window, read_book, record, variable_window};
 use reply::Refusal;
 
 // A book's bytes, and the header that they were accepted with.
@@ -41,8 +41,7 @@ impl<'a> Book<'a> {
         requires { k < self.now.header.count }
         ensures { Held self.now.bytes.now self.now.header k result }
     {
-        let c = entry(self.bytes, self.header.start, k);
-        laid(self.bytes, c.at)
+        record(self.bytes, self.header, k)
     }
 
     // How many places relation r has.
@@ -50,7 +49,7 @@ impl<'a> Book<'a> {
         requires { r < self.now.header.relations }
         ensures { (result ≡ get_or (meant self.now).arities r 0) × (result ≤ 8) }
     {
-        self.bytes[r] as usize
+        arity_of(self.bytes, self.header, r)
     }
 
     // The window of place i of relation r.

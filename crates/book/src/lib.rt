@@ -309,7 +309,26 @@ fn laid(book: &[u8], p: usize) -> cursor::Clause
     }
 }
 
-// ---- the windows, of any header
+// The record of clause k of a book that was accepted with the header h: it is that clause of the meaning's book.
+pub fn record(book: &[u8], h: Header, k: usize) -> cursor::Clause
+    requires accepted { read book.now ≡ Ok h }
+    requires k_lt_count { k < h.count }
+    ensures { Held book.now h k result }
+{
+    let c = entry(book, h.start, k);
+    laid(book, c.at)
+}
+
+// ---- what an accepted book says of its relations and variables; the windows are those of any header
+
+// How many places relation r has.
+pub fn arity_of(book: &[u8], h: Header, r: usize) -> usize
+    requires accepted { read book.now ≡ Ok h }
+    requires r_lt_relations { r < h.relations }
+    ensures { (result ≡ get_or (book_in book.now h).arities r 0) × (result ≤ 8) }
+{
+    book[r] as usize
+}
 
 // The window of place i of relation r.
 pub fn place_window(book: &[u8], h: Header, r: usize, i: usize) -> Window

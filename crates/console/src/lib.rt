@@ -1,7 +1,7 @@
 // What the programs read from standard input and write to standard output.
 #![tactic(auto)]
 
-ghost use Rattle.std.specs.Prelude.{◌+◌, ◌*◌, ◌≤◌, ◌<◌, ◌≡◌, ◌⊎◌, true, false, length, min, take, fold, replicate, pos, IfOk, IfSome, IsNone};
+ghost use Rattle.std.specs.Prelude.{◌+◌, ◌*◌, ◌≤◌, ◌<◌, ◌≡◌, ◌⊎◌, true, false, length, min, take, drop, fold, replicate, pos, IfOk, IfSome, IsNone};
 ghost use Rattle.std.specs.Io.KnownBytes.{Consumes, IsAtEnd};
 ghost use Rattle.console.specs.Console.{sum_on, again, form_of, Gives};
 
@@ -80,6 +80,16 @@ pub fn filled<R: Read>(input: &mut R, room: &mut [u8]) -> io::Result<bool>
 {
     let n = read_full(input, room)?;
     Ok(n == room.len())
+}
+
+// Puts n bytes into the front of the room; the rest keeps its bytes.
+pub fn put_bytes<R: Read>(input: &mut R, room: &mut [u8], n: usize) -> io::Result<()>
+    requires { n ≤ length room.old }
+    ensures length { length room.new ≡ length room.old }
+    ensures rest { drop n room.new ≡ drop n room.old }
+{
+    read_full(input, &mut room[..n])?;
+    Ok(())
 }
 
 // The next length; none at the end of the input.
@@ -251,10 +261,10 @@ impl Space {
         ensures { IfOk result (λ o. IfSome o (λ c. (length c.book.now ≡ n) × (length c.list.now ≤ length room.old))) }
     {
         let Space { book, values } = self;
-        let Some(book) = book.get_mut(..n) else {
+        if book.len() < n {
             return Ok(None);
-        };
-        read_full(input, book)?;
+        }
+        put_bytes(input, book, n)?;
         let low = next(input)?;
         let high = next(input)?;
         let relation = long(low, high);
@@ -262,7 +272,7 @@ impl Space {
         let v = put_written(input, values, count)?;
         let m = put_list(input, room)?;
         Ok(Some(Case {
-            book,
+            book: &book[..n],
             list: &room[..m],
             relation,
             values: &values[..v],

@@ -15,7 +15,7 @@ use console::{Case, Form, Space};
 use std::io;
 use std::io::{Read, Write};
 
-// Fills the room with numbers that tell their position.
+// Fills the room with numbers that tell their position. The like in `text_cases` has other types and another formula.
 fn fill(room: &mut [i32]) {
     for (i, x) in room.iter_mut().enumerate() {
         *x = !((i % 1000) as i32);

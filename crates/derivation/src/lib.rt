@@ -47,11 +47,11 @@ impl<'a> Claim<'a> {
     {
         let table = self.table;
         let row = table.row(step.clause);
-        let Some(before) = last else {
-            return row.body.is_none();
-        };
-        let Some(body) = row.body else {
-            return false;
+        let (body, before) = match (row.body, last) {
+            (None, None) => return true,
+            (None, Some(_)) => return false,
+            (Some(_), None) => return false,
+            (Some(body), Some(before)) => (body, before),
         };
         let earlier = table.row(before.clause).head;
         if body.relation != earlier.relation {

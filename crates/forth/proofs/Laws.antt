@@ -6,9 +6,9 @@ use Prim.Native.Nat.{ℕ, zero, suc, ◌+◌, ◌^◌, ◌≤◌, ◌<◌}
 use native.Mathlib.Nat.{not-suc-le-zero, le_of_suc-le-suc}
 use native.Mathlib.Numerals.{add-one}
 use native.Mathlib.Omega.{arith}
-use lib.ListN.{length, get_or, set, take, drop, replicate}
-use lib.Seq.{take_all, drop-cons}
-use Rattle.std.proofs.lemmas.List.{length-take}
+use lib.ListN.{length, get_or, set, take, drop, replicate, length-map}
+use lib.Seq.{take_all, take-suc, length-take-le}
+use Rattle.std.proofs.lemmas.List.{length-take, map-append}
 use lib.IntN.{ℤ, pos}
 use lib.Signed.{mag}
 use mir.Syntax.{w32}
@@ -17,6 +17,7 @@ use Rattle.whole.specs.Whole.{own}
 use Rattle.meaning.specs.Book.{Book, Window, place_window}
 use Rattle.meaning.specs.State.{Control, flags, bit, low_row, low_rows, first}
 use Rattle.lists.specs.Trace.{flat, state_numbers}
+use Rattle.steps.specs.Put.{Put, put-more, put_as}
 use Rattle.state.specs.State.{front, rows_of, placed, state_of}
 use Rattle.state.specs.Laws.{front-take, rows-cons, front-more, front-replicate}
 use Rattle.state.proofs.Shape.{arity-cons, arity-none, relations-few}
@@ -33,8 +34,14 @@ bit-is : (f : Bool) → to_z w32 (bool_byte f) ≡ bit f
 bit-is true = refl
 bit-is false = refl
 
-pub flags-next : (fs : List Bool) (j : ℕ) → j < length fs → map bit (drop j fs) ≡ (to_z w32 (bool_byte (get_or fs j false)) ∷ []) ++ map bit (drop (j + 1) fs)
-flags-next fs j h = rw (drop-cons fs j false h, add-one j, bit-is)
+-- one flag more
+pub flags-more : (d e : List ℤ) (at j : ℕ) (fs : List Bool) → Put d e at (map bit (take j fs)) → at + length fs ≤ length d → j < length fs
+    → Put d (set e (at + j) (to_z w32 (bool_byte (get_or fs j false)))) at (map bit (take (j + 1) fs))
+flags-more d e at j fs w h k =
+    let n : length (map bit (take j fs)) ≡ j = length-map (take j fs) bit ∙ length-take-le j fs (omega arith) in
+    let x = to_z w32 (bool_byte (get_or fs j false)) in
+    let all : map bit (take j fs) ++ (x ∷ []) ≡ map bit (take (j + 1) fs) = rw (add-one j, take-suc fs j false k, map-append, bit-is) refl in
+    put_as (rw n at (put-more w x (omega (arith, n)))) all
 
 -- ---- places
 

@@ -1,7 +1,7 @@
 // Derivation to trace: the trace's numbers written in order.
 #![tactic(auto)]
 
-ghost use Rattle.std.specs.Prelude.{◌≡◌, false, map, ◌≤◌, length, replicate};
+ghost use Rattle.std.specs.Prelude.{◌≡◌, ◌+◌, false, map, ◌≤◌, length, replicate};
 ghost use Rattle.meaning.specs.Book.{place_window};
 ghost use Rattle.meaning.specs.State as meanings;
 ghost use Rattle.meaning.specs.State.{bit, low_row, low_rows};
@@ -15,6 +15,16 @@ ghost use Rattle.steps.specs.Walk.{Walk};
 use book::Book;
 use state::State;
 use table::Table;
+
+// each flag as a number, from `at` on: one loop over the room, since a writer that moves on at each flag took twice the time at sixteen relations
+fn write_flags(flags: &[bool], room: &mut [i32], at: usize)
+    requires { at + length flags.now ≤ length room.old }
+    ensures { Put room.old room.new at (map bit flags.now) }
+{
+    for j in 0..flags.len() {
+        room[at + j] = flags[j] as i32;
+    }
+}
 
 // A lent room, and where writing stands in it.
 #[derive(Drop)]
@@ -40,9 +50,8 @@ impl<'a> Writer<'a> {
         requires { HasRoom self.old (map bit flags.now) }
         ensures { Puts self.old self.new (map bit flags.now) }
     {
-        for flag in flags {
-            self.numbers(&[*flag as i32]);
-        }
+        write_flags(flags, self.room, self.at);
+        self.at += flags.len();
     }
 
     // the places of all relations

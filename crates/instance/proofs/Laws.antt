@@ -9,7 +9,7 @@ use mathlib.Core.Bool.{Bool, true, false, ◌&&◌}
 use mathlib.Core.List.{List, [], ◌∷◌, map}
 use lib.ListN.{length, get_or, take, drop, length-map, length-drop}
 use lib.Seq.{drop-cons, get_or-take, get_or-drop, length-take-le}
-use lib.IntN.{ℤ, pos}
+use lib.IntN.{ℤ, pos, negsuc}
 use borrow.Author.Tests.{lt-ltb, le-ltb, le-leb, lt-leb}
 use Rattle.meaning.specs.Constraint.{holds}
 use Rattle.meaning.specs.Book.{Book, Clause, Window, variable_window}
@@ -17,7 +17,7 @@ use Rattle.reply.specs.declared.Refusal.{Refusal}
 use Rattle.reply.specs.Answer.{Answer, refused, ok, need, and_then, refuse, told, giving, Outcome}
 use Rattle.reply.specs.Among.{told-done, told-no, giving-no, giving-ok}
 use Rattle.lists.specs.Compare.{eq_z, eq_vals, inside, all_in, first_out}
-use Rattle.lists.specs.Instance.{clause_at, judge_clause, judge, judge_enabled}
+use Rattle.lists.specs.Instance.{clause_number, clause_at, judge_clause, judge, judge_enabled}
 use Rattle.lists.specs.Among.{among-judge}
 use Rattle.lists.specs.Laws.{judge-exact}
 use Rattle.book.specs.declared.Header.{Header}
@@ -29,7 +29,7 @@ use Rattle.book.specs.Joined.{count-is}
 use Rattle.cursor.specs.Meaning.{tree_in}
 use Rattle.table.specs.declared.Row.{Row}
 use Rattle.table.specs.Table.{IsRow}
-use Rattle.instance.specs.Values.{number_in, values_at, Valued}
+use Rattle.instance.specs.Values.{number_or, number_in, values_at, Valued}
 use Rattle.std.specs.Prelude.{Result, Ok, Err}
 
 -- ---- two lists of values, compared from number j on
@@ -187,15 +187,23 @@ module _ (b : Book) (c : Clause) (more : ℕ) (l : List ℤ) (i : ℕ) where
 
 -- ---- the clause that a list's number names
 
-module _ (s : List ℕ) (h : Header) (good : read s ≡ Ok h) (l : List ℤ) (i more : ℕ) where
-  pub judge-none : h.count ≤ number_in s h l i → judge (book_in s h) (number_in s h l i) more (drop (i + 1) l) i ≡ refused 12 i
-  unfolding judge need
-  judge-none a = rw (le-ltb (number_in s h l i) (length (book_in s h).clauses) (omega (arith, count-is s h good)))
+module _ (s : List ℕ) (h : Header) (good : read s ≡ Ok h) (l : List ℤ) (i : ℕ) {k : ℕ} (q : k ≡ number_or h.count (get_or l i (pos 0))) where
+  pub number_is : number_in s h l i ≡ k
+  unfolding clause_number number_or
+  number_is = go (get_or l i (pos 0)) ∙ sym q
+    where
+      go : (z : ℤ) → clause_number (book_in s h) z ≡ number_or h.count z
+      go (pos n) = refl
+      go (negsuc n) = count-is s h good
 
-  pub judge-some : number_in s h l i < h.count →
-      judge (book_in s h) (number_in s h l i) more (drop (i + 1) l) i ≡ judge_clause (book_in s h) (clause_at (book_in s h) (number_in s h l i)) more (drop (i + 1) l) i
+  pub judge-none : (more : ℕ) → h.count ≤ k → judge (book_in s h) (number_in s h l i) more (drop (i + 1) l) i ≡ refused 12 i
   unfolding judge need
-  judge-some a = rw (lt-ltb (number_in s h l i) (length (book_in s h).clauses) (omega (arith, count-is s h good)))
+  judge-none more a = rw (number_is, le-ltb k (length (book_in s h).clauses) (omega (arith, count-is s h good)))
+
+  pub judge-some : (more : ℕ) → k < h.count →
+      judge (book_in s h) (number_in s h l i) more (drop (i + 1) l) i ≡ judge_clause (book_in s h) (clause_at (book_in s h) k) more (drop (i + 1) l) i
+  unfolding judge need
+  judge-some more a = rw (number_is, lt-ltb k (length (book_in s h).clauses) (omega (arith, count-is s h good)))
 
 -- ---- judging, as the code does it by the clause's row
 

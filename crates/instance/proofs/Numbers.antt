@@ -15,6 +15,7 @@ use Rattle.whole.specs.Whole.{own, fits-small, non_neg-of, pos-is, neg_is}
 use Rattle.lists.specs.Compare.{eq_z, inside}
 use Rattle.meaning.specs.Book.{Book}
 use Rattle.lists.specs.Instance.{clause_number}
+use Rattle.instance.specs.Values.{number_or}
 
 module _ (lo hi x : ℤ) where
   pub inside-yes : SFits w32 lo → SFits w32 hi → mag x < 2 ^ hbits w32 → le_z (to_z w32 (of_z w32 lo)) (to_z w32 (of_z w32 x)) ≡ true →
@@ -41,15 +42,16 @@ same_number (negsuc m) (pos n) h k = let a : m < 2147483648 = h in let b : n < 2
 same_number (negsuc m) (negsuc n) h k = same_bits m n h k
 
 -- a number of a list as a clause's
-module _ (b : Book) (x : ℤ) (h : mag x < 2 ^ hbits w32) where
-  pub number-low : lt_z (to_z w32 (of_z w32 x)) (pos 0) ≡ true → clause_number b x ≡ length b.clauses
-  unfolding clause_number
+module _ (n : ℕ) (x : ℤ) (h : mag x < 2 ^ hbits w32) where
+  pub number-low : lt_z (to_z w32 (of_z w32 x)) (pos 0) ≡ true → n ≡ number_or n x
+  unfolding number_or
   number-low e = rw (neg_is x (rw (own w32 x h) at e))
 
-  pub number-high : lt_z (to_z w32 (of_z w32 x)) (pos 0) ≡ false → nat_abs (to_z w32 (of_z w32 x)) ≡ clause_number b x
-  unfolding clause_number
-  number-high e = let z = pos-is x (rw (own w32 x h) at e) in rw (own w32 x h) (sym (ap (clause_number b) z))
+  pub number-high : lt_z (to_z w32 (of_z w32 x)) (pos 0) ≡ false → nat_abs (to_z w32 (of_z w32 x)) ≡ number_or n x
+  unfolding number_or
+  number-high e = let z = pos-is x (rw (own w32 x h) at e) in rw (own w32 x h) (sym (ap (number_or n) z))
 
+module _ (b : Book) (x : ℤ) (h : mag x < 2 ^ hbits w32) where
   -- where it names one it is a number
   module _ (k : clause_number b x < length b.clauses) where
     named-fits : T (non_neg x) × (nat_abs x ≤ 2147483648) → T (non_neg x) × Fits w64 (nat_abs x)
@@ -76,4 +78,4 @@ number_fits x h e =
     let s = fits-small {w = w32} {z = x} (record { sfits = h }) in
     rw (own w32 x h) (non_neg-of x (rw (own w32 x h) at e), record { fits = let k : nat_abs x ≤ 2147483648 = s.abs in omega arith })
 
-pub ruleset numbers = (inside-yes, inside-no, same_number, number_fits)
+pub ruleset numbers = (inside-yes, inside-no, same_number, number-low, number-high, number_fits)

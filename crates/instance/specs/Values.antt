@@ -1,8 +1,13 @@
 -- Values of a list by where they stand: those of a step's variables from a place of the list on, its atoms' arguments from a byte of the book on.
-use Rattle.std.specs.Prelude.{ℕ, ◌+◌, ◌<◌, ◌≤◌, List, map, length, get_or, take, drop, ℤ, pos}
+use Rattle.std.specs.Prelude.{ℕ, ◌+◌, ◌<◌, ◌≤◌, List, map, length, get_or, take, drop, ℤ, pos, negsuc}
 use Rattle.lists.specs.Instance.{clause_number}
 use Rattle.book.specs.declared.Header.{Header}
 use Rattle.book.specs.Meaning.{book_in}
+
+-- a list's number as a clause's number; below zero it is n
+unfoldable pub number_or : ℕ → ℤ → ℕ
+number_or n (pos k) = k
+number_or n (negsuc c) = n
 
 -- the clause number that stands at place i of the list l
 abbrev pub number_in : List ℕ → Header → List ℤ → ℕ → ℕ

@@ -9,13 +9,22 @@ ghost use Rattle.lists.specs.Instance.{clause_number, clause_at, judge_clause, j
 ghost use Rattle.book.specs.Meaning.{book_in};
 ghost use Rattle.book.specs.Held.{meant};
 ghost use Rattle.book.specs.Windows.{window_of};
-ghost use Rattle.instance.specs.Values.{number_in, values_at, Valued};
+ghost use Rattle.instance.specs.Values.{number_or, number_in, values_at, Valued};
 
 use book::{Book, Header, Window};
 use reply::{Answer, refuse};
 use table::Table;
 
 // ---- numbers of a list
+
+// The number at i as a clause's, or n if it is below zero.
+pub fn number_at(list: &[i32], i: usize, n: usize) -> usize
+    requires { i < length list.now }
+    ensures { result ≡ number_or n (get_or list.now i (pos 0)) }
+{
+    let x = list[i];
+    if x < 0 { n } else { x as usize }
+}
 
 // The clause that the number at i names, where it names one.
 pub fn number_in(book: &Book, list: &[i32], i: usize) -> usize
@@ -150,12 +159,9 @@ pub fn instance_at(table: &Table, list: &[i32], i: usize, more: usize) -> Answer
     requires { i < length list.now }
     ensures { result ≡ giving (judge (meant table.now.book) (number_in table.now.book.bytes.now table.now.book.header list.now i) more (drop (i + 1) list.now) i) (number_in table.now.book.bytes.now table.now.book.header list.now i) }
 {
-    let x = list[i];
-    if x < 0 {
-        return refuse(12, i);
-    }
-    let k = x as usize;
-    if table.book.header.count <= k {
+    let count = table.book.header.count;
+    let k = number_at(list, i, count);
+    if count <= k {
         return refuse(12, i);
     }
     judged(table, k, list, i, more)?;

@@ -17,6 +17,7 @@ pub data Constraint : Type 0 where
   and : Constraint → Constraint → Constraint
   or : Constraint → Constraint → Constraint
   remainder : Sum → ℕ → ℕ → Constraint
+  deriving IsSet as Constraint-set
 
 -- z and each coefficient times its variable's value
 unfoldable pub plus : ℤ → List ℤ → List ℤ → ℤ

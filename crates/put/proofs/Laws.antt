@@ -29,7 +29,7 @@ module _ {A : Type 0} where
   paste-out [] d at h = refl
   paste-out (b ∷ t) d at h = rw set_out (paste-out t d (at + 1) (omega arith))
 
-  length-paste : (t d : List A) (at : ℕ) → length (paste d at t) ≡ length d
+  pub length-paste : (t d : List A) (at : ℕ) → length (paste d at t) ≡ length d
   unfolding paste
   length-paste [] d at = refl
   length-paste (b ∷ t) d at = length-paste t (set d at b) (at + 1) ∙ length-set d at b

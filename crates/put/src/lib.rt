@@ -6,7 +6,7 @@ ghost use Rattle.put.specs.Room.{top};
 ghost use Rattle.put.specs.Digits.{digits};
 ghost use Rattle.put.specs.Number.{num};
 
-// A lent room, and where printing stands in it.
+// A lent room, and where printing stands in it. It is no `Formatter`, which answers a Result and holds no place.
 #[derive(Drop)]
 pub struct Printer<'a> {
     room: &'a mut [u8],

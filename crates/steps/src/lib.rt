@@ -23,5 +23,8 @@ pub fn copy(list: &[i32], from: usize, n: usize, room: &mut [i32], at: usize)
     requires { (from + n ≤ length list.now) × (at + n ≤ length room.old) }
     ensures { Put room.old room.new at (take n (drop from list.now)) }
 {
-    room[at..at + n].copy_from_slice(&list[from..from + n]);
+    // a loop, so that nothing is copied by a function from outside that C's archive doesn't need else
+    for j in 0..n {
+        room[at + j] = list[from + j];
+    }
 }

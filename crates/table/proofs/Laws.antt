@@ -17,12 +17,12 @@ use Rattle.cursor.specs.Sound.{Arguments, tree-part}
 use Rattle.truth.specs.Front.{front-is-tree, front-tree}
 use Rattle.book.specs.declared.Header.{Header}
 use Rattle.book.specs.Read.{read}
-use Rattle.book.specs.Joined.{Held, record-read, held}
+use Rattle.book.specs.Joined.{Held}
 use Rattle.book.specs.Trailer.{read-trailed}
 use Rattle.book.specs.Arities.{arity-is, arity-small}
 use Rattle.std.specs.Prelude as code
 use Rattle.table.specs.declared.Row.{Row}
-use Rattle.table.specs.Table.{seat_of, body_of, row_of, no_row, Fits, Seated, SeatedBody, IsRow, Tabled}
+use Rattle.table.specs.Table.{seat_of, body_of, row_of, no_row, Fits, Seated, SeatedBody, IsRow}
 use Rattle.std.specs.Prelude.{Ok}
 
 -- a part that lies in the front of a list
@@ -126,10 +126,3 @@ rows_more P t k {r} there w rows j b = go (eqb j k) refl
     go : (x : Bool) → eqb j k ≡ x → P j (get_or (set t k r) j no_row)
     go true q = let e : j ≡ k = eqb-true j k q in rw (e, get_or-set_same t k r no_row there) w
     go false q = let n = eqb-false j k q in let m : j < k = omega (arith, n) in rw (get_or-set_other t k j r no_row n) (rows j m)
-
--- every row of a table says what its clause is
-pub table-says : (s : List ℕ) (h : Header) (t : List Row) → read s ≡ Ok h → Tabled s h t → (k : ℕ) → k < h.count → IsRow s h k (get_or t k no_row)
-table-says s h t good w k b =
-    let r = record-read s h good k b in
-    let x = held s h good k b r.clause r.past r.reads in
-    rw (w.row k b _ x) (row-says s h good k _ x)

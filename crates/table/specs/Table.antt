@@ -11,7 +11,6 @@ use Rattle.cursor.specs.Meaning.{tree_in}
 use Rattle.cursor.specs.Sound.{Arguments, IsTree}
 use Rattle.book.specs.declared.Header.{Header}
 use Rattle.book.specs.Meaning.{book_in}
-use Rattle.book.specs.Joined.{Held}
 
 -- the seat of relation r, whose number stands at p
 unfoldable pub seat_of : List ℕ → Header → ℕ → ℕ → Seat
@@ -69,4 +68,4 @@ no_row = record { rule = 0; variables = 0; head = record { at = 0; relation = 0;
 
 -- t is the table of the book that the bytes s hold
 pub record Tabled (s : List ℕ) (h : Header) (t : List Row) : Type 0 where
-  pub row : (k : ℕ) → k < h.count → (c : Clause) → Held s h k c → get_or t k no_row ≡ row_of s h c
+  pub row : (k : ℕ) → k < h.count → IsRow s h k (get_or t k no_row)

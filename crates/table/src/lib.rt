@@ -3,6 +3,7 @@
 
 ghost use Rattle.std.specs.Prelude.{◌≡◌, ◌<◌};
 ghost use Rattle.table.specs.Table.{seat_of, body_of, row_of, Fits, Tabled};
+ghost use Rattle.table.specs.Single.{tabled-prop};
 
 use book::Book;
 
@@ -28,7 +29,7 @@ pub struct Row {
 pub struct Table<'a> {
     pub book: Book<'a>,
     pub rows: [Row; 64],
-    pub ghost tabled: { Tabled book.bytes.now book.header rows },
+    pub ghost tabled: { Tabled book.bytes.now book.header rows } by { tabled-prop book.bytes.now book.header rows },
 }
 
 impl Row {
@@ -85,7 +86,8 @@ fn row_of(book: &Book, c: cursor::Clause) -> Row
 }
 
 impl<'a> Table<'a> {
-    ghost use Rattle.table.specs.Table.{IsRow};
+    ghost use Rattle.std.specs.Prelude.{get_or};
+    ghost use Rattle.table.specs.Table.{IsRow, no_row};
 
     // The table of a book.
     pub fn of(book: Book<'a>) -> Table<'a>
@@ -101,7 +103,8 @@ impl<'a> Table<'a> {
     // The row of clause k.
     pub fn row(&self, k: usize) -> Row
         requires { k < self.now.book.header.count }
-        ensures { IsRow self.now.book.bytes.now self.now.book.header k result }
+        ensures is { result ≡ get_or self.now.rows k no_row }
+        ensures says { IsRow self.now.book.bytes.now self.now.book.header k result }
     {
         self.rows[k]
     }

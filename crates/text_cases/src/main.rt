@@ -12,7 +12,7 @@ use std::io::{Read, Write};
 // A longer text is not printed.
 const SHOWN: usize = 1500;
 
-// Byte i of the room becomes i mod 251.
+// Byte i of the room becomes i mod 251. The like in `convert_cases` has other types and another formula.
 fn fill(room: &mut [u8]) {
     for (i, b) in room.iter_mut().enumerate() {
         *b = (i % 251) as u8;

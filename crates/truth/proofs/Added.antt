@@ -4,11 +4,12 @@ use mathlib.Core.List.{List, [], ◌∷◌}
 use mathlib.Core.Bool.{true, false}
 use Prim.Native.Nat.{ℕ, zero, suc, ◌+◌, ◌*◌, ◌-◌, ◌%◌, ◌<◌}
 use native.Mathlib.Omega.{arith}
-use borrow.Author.Tests.{leb-false, ne_eqb}
+use native.Mathlib.Nat.{not-suc-le-zero}
+use borrow.Author.Tests.{ltb-true, ne_eqb}
 use lib.ListN.{length, get_or, take}
-use lib.Dec.{eqb}
+use lib.Dec.{T, eqb}
 use lib.IntN.{ℤ, pos, negsuc, nat_abs, ◌+ℤ◌, ◌*ℤ◌}
-use lib.Signed.{le_z}
+use lib.Signed.{lt_z, non_neg}
 use mir.Syntax.{w64}
 use mir.Val.{SFits, of_z}
 use Rattle.meaning.specs.Constraint.{plus, is0, leaves}
@@ -37,12 +38,12 @@ unfolding is0
 is0-bits (pos n) f = refl
 is0-bits (negsuc n) f = let h : n < 9223372036854775808 = f.sfits in ne_eqb (18446744073709551616 - suc n) 0 (λ e. omega arith)
 
-pub leaves-neg : (d r : ℕ) (z : ℤ) → le_z (pos 0) z ≡ false → le_z (pos 0) z ≡ leaves d r z
+pub leaves-neg : (d r : ℕ) (z : ℤ) → lt_z z (pos 0) ≡ true → leaves d r z ≡ false
 unfolding leaves
-leaves-neg d r (pos n) e = absurd (let h = leb-false 0 n e in let z : ⊥ = omega arith in z)
+leaves-neg d r (pos n) e = absurd (not-suc-le-zero (ltb-true n 0 e))
 leaves-neg d r (negsuc n) e = refl
 
-pub leaves-pos : (d r : ℕ) (z : ℤ) → le_z (pos 0) z ≡ true → eqb (nat_abs z % d) r ≡ leaves d r z
+pub leaves-pos : (d r : ℕ) (z : ℤ) → T (non_neg z) → eqb (nat_abs z % d) r ≡ leaves d r z
 unfolding leaves
-leaves-pos d r (pos n) e = refl
-leaves-pos d r (negsuc n) e = cc
+leaves-pos d r (pos n) t = refl
+leaves-pos d r (negsuc n) t = absurd t

@@ -27,7 +27,7 @@ fn leaves_over(x: i64, d: u64, m: u64) -> bool
     requires { 0 < d }
     ensures { result ≡ leaves d m x }
 {
-    0 <= x && x as u64 % d == m
+    if x < 0 { false } else { x as u64 % d == m }
 }
 
 // ---- kinds

@@ -3,6 +3,7 @@
 
 ghost use Rattle.std.specs.Prelude.{◌≡◌, ◌+◌, ◌<◌, ◌≤◌, length};
 ghost use Rattle.std.specs.Int.{w16, w32};
+ghost use Rattle.std.proofs.Common.{to_z};
 ghost use Rattle.whole.specs.Whole.{Signed};
 ghost use Rattle.whole.specs.Bytes.{u16_at, u32_at, i16_at, i32_at};
 
@@ -22,12 +23,19 @@ pub fn u32_at(s: &[u8], at: usize) -> u32
     u32::from_le_bytes([s[at], s[at + 1], s[at + 2], s[at + 3]])
 }
 
+// The number that 16 bits stand for in two's complement.
+fn short(n: u16) -> i16
+    ensures { result ≡ to_z w16 n }
+{
+    n.cast_signed()
+}
+
 // The signed number of two bytes at `at`.
 pub fn i16_at(s: &[u8], at: usize) -> i64
     requires { at + 2 ≤ length s.now }
     ensures { Signed w16 (i16_at s.now at) result }
 {
-    i64::from(u16_at(s, at).cast_signed())
+    i64::from(short(u16_at(s, at)))
 }
 
 // The signed number of four bytes at `at`, as a window's end or a number of a list.

@@ -35,25 +35,25 @@ put-requires c =
 pub slice_bounds-numbers-end : goal.slice_bounds-numbers-end
 slice_bounds-numbers-end c =
     let t = c.loop-i in
-    let room = numbers-room _ _ c.args.table.now.book.accepted c.requires.walk t.state t.invariant.0 c.loop-i-test.true c.number_in-k.ensures c.row.ensures in
+    let room = numbers-room _ _ c.args.table.now.book.accepted c.requires.walk t.state t.invariant.0 c.loop-i-test.true c.number_in-k.ensures c.row.ensures.says in
     search rules
 
 pub numbers-requires : goal.numbers-requires
 numbers-requires c =
     let t = c.loop-i in
-    numbers-fits _ _ c.args.table.now.book.accepted c.requires.walk t.state t.invariant.0 c.loop-i-test.true c.number_in-k.ensures c.row.ensures
+    numbers-fits _ _ c.args.table.now.book.accepted c.requires.walk t.state t.invariant.0 c.loop-i-test.true c.number_in-k.ensures c.row.ensures.says
     t.invariant.1 t.invariant.2 c.put.new.self c.put.ensures.flags c.put.ensures.rows
 
 pub state-requires-in-loop-i : goal.state-requires-in-loop-i
 state-requires-in-loop-i c =
     let t = c.loop-i in
-    state-fits _ _ c.args.table.now.book.accepted c.requires.walk t.state t.invariant.0 c.loop-i-test.true c.number_in-k.ensures c.row.ensures
+    state-fits _ _ c.args.table.now.book.accepted c.requires.walk t.state t.invariant.0 c.loop-i-test.true c.number_in-k.ensures c.row.ensures.says
     t.invariant.1 t.invariant.2 c.put.new.self c.put.ensures.flags c.put.ensures.rows c.numbers.ensures
 
 pub loop-i-preserved : goal.loop-i-preserved
 loop-i-preserved c =
     let t = c.loop-i in (
-      going-more _ _ c.args.table.now.book.accepted c.requires.walk t.state t.invariant.0 c.loop-i-test.true c.number_in-k.ensures c.row.ensures
+      going-more _ _ c.args.table.now.book.accepted c.requires.walk t.state t.invariant.0 c.loop-i-test.true c.number_in-k.ensures c.row.ensures.says
           t.invariant.1 t.invariant.2 c.put.new.self c.put.ensures.flags c.put.ensures.rows c.numbers.ensures c.state-in-loop-i.ensures,
       rw (c.put.ensures.flags, length-set) t.invariant.1,
       rw c.put.ensures.rows (state.put-length _ t.state.rows ∙ t.invariant.2),

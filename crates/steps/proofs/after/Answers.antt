@@ -8,4 +8,4 @@ pub row-requires : goal.row-requires
 row-requires c = omega (arith, c.number_in-k.ensures, c.requires.there)
 
 pub returns : goal.returns
-returns c = let w = rw c.number_in-k.ensures at c.«row».ensures in omega (arith, w.vars)
+returns c = let w = rw c.number_in-k.ensures at c.«row».ensures.says in omega (arith, w.vars)

@@ -6,4 +6,4 @@ use Rattle.whole.proofs.i16_at.Goals as goal
 
 pub returns : goal.returns
 unfolding i16_at
-returns c = rw c.from.ensures (widen w16 _ tt c.cast_signed.type_inv (c.cast_signed.ensures ∙ ap (to_z w16) c.u16_at.ensures))
+returns c = rw c.from.ensures (widen w16 _ tt c.short.type_inv (c.short.ensures ∙ ap (to_z w16) c.u16_at.ensures))

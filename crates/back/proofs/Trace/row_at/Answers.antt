@@ -8,4 +8,4 @@ pub row-requires : goal.row-requires
 row-requires c = omega (arith, c.number_in.ensures, c.requires.there)
 
 pub returns : goal.returns
-returns c = rw c.number_in.ensures at c.«row».ensures
+returns c = rw c.number_in.ensures at c.«row».ensures.says

@@ -14,14 +14,14 @@ pub returns-in_default : goal.returns-in_default
 returns-in_default c = rw c.in_default.is (goal-none _ _ _ _ _)
 
 pub returns-then-head-self : goal.returns-then-head-self
-returns-then-head-self c = rw c.in-Some.is (goal-other _ _ c.args.self.now.list.now _ _ _ c.row.ensures c.if-head-self.true)
+returns-then-head-self c = rw c.in-Some.is (goal-other _ _ c.args.self.now.list.now _ _ _ c.row.ensures.says c.if-head-self.true)
 
 pub values_are-requires : goal.values_are-requires
 values_are-requires c =
-    goal-there _ _ c.args.self.now.list.now c.args.self.now.relation c.args.self.now.values.now _ c.row.ensures c.if-head-self.false c.args.self.now.values_len
+    goal-there _ _ c.args.self.now.list.now c.args.self.now.relation c.args.self.now.values.now _ c.row.ensures.says c.if-head-self.false c.args.self.now.values_len
     (last (goal.at.values_are-requires c).In-Some)
 
 pub returns : goal.returns
 returns c =
     rw c.in-Some.is
-    (goal-same _ _ c.args.self.now.list.now _ _ _ c.row.ensures c.if-head-self.false c.args.self.now.values_len c.values_are.ensures)
+    (goal-same _ _ c.args.self.now.list.now _ _ _ c.row.ensures.says c.if-head-self.false c.args.self.now.values_len c.values_are.ensures)

@@ -23,7 +23,7 @@ row-requires c =
 pub loop-i-preserved : goals.loop-i-preserved
 loop-i-preserved c =
     going_on _ _ c.args.self.now.table.now.book.accepted _ c.args.self.now.list.now c.loop-i.invariant c.loop-i-test.true c.step_at.ensures
-    c.in_ok-step.was c.row.ensures
+    c.in_ok-step.was c.row.ensures.says
 
 pub returns-then-ended : goals.returns-then-ended
 returns-then-ended c =

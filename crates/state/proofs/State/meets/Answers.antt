@@ -6,17 +6,17 @@ use Rattle.state.proofs.State.meets.Goals as goal
 pub returns-in_default : goal.returns-in_default
 returns-in_default c =
     let a = c.args in
-    meets-none a.table.now.book.accepted c.row-row.ensures a.list.now a.from a.self.now.flags a.self.now.rows c.in_default.is
+    meets-none a.table.now.book.accepted c.row-row.ensures.says a.list.now a.from a.self.now.flags a.self.now.rows c.in_default.is
 
 pub bounds-self-r : goal.bounds-self-r
 bounds-self-r c =
     let a = c.args in
-    body-few a.table.now.book.accepted c.row-row.ensures a.list.now a.from a.self.now.flags a.self.now.rows c.in-Some.is
+    body-few a.table.now.book.accepted c.row-row.ensures.says a.list.now a.from a.self.now.flags a.self.now.rows c.in-Some.is
 
 pub values_are-requires : goal.values_are-requires
 values_are-requires c =
     let a = c.args in
-    let w = c.row-row.ensures in (
+    let w = c.row-row.ensures.says in (
       body-there w a.list.now a.from c.in-Some.is c.requires.1,
       omega (arith, body-small a.table.now.book.accepted w a.list.now a.from a.self.now.flags a.self.now.rows c.in-Some.is),
     )
@@ -24,7 +24,7 @@ values_are-requires c =
 pub returns-then-self-r : goal.returns-then-self-r
 returns-then-self-r c =
     let a = c.args in
-    let w = c.row-row.ensures in
+    let w = c.row-row.ensures.says in
     meets-row a.table.now.book.accepted w a.list.now a.from a.self.now.flags a.self.now.rows c.in-Some.is
     (omega (arith, body-small a.table.now.book.accepted w a.list.now a.from a.self.now.flags a.self.now.rows c.in-Some.is))
     c.if-self-r.true c.values_are.ensures
@@ -33,4 +33,4 @@ pub returns-else-self-r : goal.returns-else-self-r
 returns-else-self-r c =
     let a = c.args in
     c.if-self-r.false
-    ∙ meets-off a.table.now.book.accepted c.row-row.ensures a.list.now a.from a.self.now.flags a.self.now.rows c.in-Some.is c.if-self-r.false
+    ∙ meets-off a.table.now.book.accepted c.row-row.ensures.says a.list.now a.from a.self.now.flags a.self.now.rows c.in-Some.is c.if-self-r.false

@@ -1,10 +1,7 @@
-use Rattle.std.proofs.Common.{arith, length-set, refl, ◌∙◌, ap, ◌≡◌, ℕ}
-use Rattle.cursor.specs.declared.Clause.{Clause}
+use Rattle.std.proofs.Common.{arith, length-set, refl}
 use Rattle.book.specs.Trailer.{read-trailed}
-use Rattle.book.specs.Joined.{Held, one-record}
-use Rattle.table.specs.declared.Row.{Row}
-use Rattle.table.specs.Table.{row_of}
-use Rattle.table.proofs.Laws.{row_fits, rows_more}
+use Rattle.table.specs.Table.{IsRow}
+use Rattle.table.proofs.Laws.{row_fits, row-says, rows_more}
 use Rattle.table.proofs.Table.of.Goals as goal
 
 pub row_of-requires : goal.row_of-requires
@@ -22,10 +19,10 @@ loop-k-preserved c =
     let h = c.args.book.header in (
       rw length-set t.invariant.0,
       t.invariant.1,
-      rows_more (λ (j : ℕ) (r : Row). (x : Clause) → Held s h j x → r ≡ row_of s h x) t.rows t.k (omega (arith, t.invariant.0, t.invariant.1))
-          (λ x w. c.row_of.ensures ∙ ap (row_of s h) (one-record s h t.k _ x c.«record».ensures w))
+      rows_more (IsRow s h) t.rows t.k (omega (arith, t.invariant.0, t.invariant.1))
+          (rw c.row_of.ensures (row-says s h c.args.book.accepted t.k _ c.«record».ensures))
           t.invariant.2,
     )
 
 pub invariant_of-result : goal.invariant_of-result
-invariant_of-result c = record { tabled = record { row = λ k b x w. c.loop-k.invariant.2 k (omega arith) x w } }
+invariant_of-result c = record { tabled = record { row = λ k b. c.loop-k.invariant.2 k (omega arith) } }

@@ -1,6 +1,5 @@
 use Rattle.std.proofs.Common.{arith, ◌<◌}
 use Rattle.book.specs.Trailer.{read-trailed}
-use Rattle.table.proofs.Laws.{table-says}
 use Rattle.table.proofs.Table.row.Goals as goal
 use Rattle.table.proofs.Table.row.Goals.{Start}
 
@@ -13,5 +12,5 @@ offset_bounds-self-k c = record { fits = omega (arith, few (goal.at.offset_bound
 pub bounds-self-k : goal.bounds-self-k
 bounds-self-k c = few (goal.at.bounds-self-k c).Start
 
-pub returns : goal.returns
-returns c = let t = c.args.self.now in table-says _ _ _ t.book.accepted t.tabled _ c.requires
+pub returns-clause-says : goal.returns-clause-says
+returns-clause-says c = c.args.self.now.tabled.row _ c.requires

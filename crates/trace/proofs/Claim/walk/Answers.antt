@@ -41,20 +41,20 @@ row-row-requires c = (stands (goals.at.row-row-requires c).In_ok-k).0
 pub differs-d-requires : goals.differs-d-requires
 differs-d-requires c =
     let t = c.args.self.now in
-    let w = on_fits _ _ t.table.now.book.accepted t.list.now _ t.sized c.loop-i-test.true _ c.step_at.ensures c.in_ok-k.was c.row-row.ensures in
+    let w = on_fits _ _ t.table.now.book.accepted t.list.now _ t.sized c.loop-i-test.true _ c.step_at.ensures c.in_ok-k.was c.row-row.ensures.says in
     omega (arith, w, t.sized.is)
 
 pub returns-then-d-at : goals.returns-then-d-at
 returns-then-d-at c =
     let t = c.args.self.now in
     going-differs _ _ t.table.now.book.accepted _ t.list.now t.sized c.loop-i.invariant c.loop-i-test.true c.step_at.ensures
-    c.in_ok-k.was c.row-row.ensures c.put.ensures.flags c.put.ensures.rows c.differs-d.ensures c.if-d-at.true c.refuse.ensures
+    c.in_ok-k.was c.row-row.ensures.says c.put.ensures.flags c.put.ensures.rows c.differs-d.ensures c.if-d-at.true c.refuse.ensures
 
 pub loop-i-preserved : goals.loop-i-preserved
 loop-i-preserved c =
     let t = c.args.self.now in
     going_on _ _ t.table.now.book.accepted _ t.list.now t.sized c.loop-i.invariant c.loop-i-test.true c.step_at.ensures
-    c.in_ok-k.was c.row-row.ensures c.put.ensures.flags c.put.ensures.rows c.differs-d.ensures c.if-d-at.false
+    c.in_ok-k.was c.row-row.ensures.says c.put.ensures.flags c.put.ensures.rows c.differs-d.ensures c.if-d-at.false
 
 pub returns-then-holds : goals.returns-then-holds
 returns-then-holds c =
