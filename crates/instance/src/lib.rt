@@ -121,7 +121,7 @@ pub fn first_out(book: &[u8], h: Header, k: usize, list: &[i32], from: usize, v:
 }
 
 // 13 to 15: whether an instance of clause k begins at i, after whose values `more` numbers follow. Both are inlined, so that no answer is handed
-// over in memory at each step: without that the check of a derivation took two fifths longer at constraints of one node (measured).
+// over in memory at each step: without that the check of a derivation took 1.6 times as long at constraints of one node (measured).
 #[inline(always)]
 pub fn judged(table: &Table, k: usize, list: &[i32], i: usize, more: usize) -> Answer
     requires { (k < table.now.book.header.count) × (i < length list.now) }

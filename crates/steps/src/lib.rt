@@ -23,7 +23,7 @@ pub fn copy(list: &[i32], from: usize, n: usize, room: &mut [i32], at: usize)
     requires { (from + n ≤ length list.now) × (at + n ≤ length room.old) }
     ensures { Put room.old room.new at (take n (drop from list.now)) }
 {
-    // a loop, so that nothing is copied by a function from outside that C's archive doesn't need else
+    // a loop: `copy_from_slice` made C's archive need `memmove` from outside, which nothing else in it does
     for j in 0..n {
         room[at + j] = list[from + j];
     }

@@ -2,7 +2,7 @@
 use mathlib.Core.Path.{sym, ap, ◌∙◌}
 use mathlib.Core.HLevel.{is_prop→PathP, Unit-prop, ⊥_prop}
 use mathlib.Core.Sum.{⊎_set}
-use Rattle.std.specs.Prelude.{ℕ, ◌≡◌, ◌<◌, List, Ok}
+use Rattle.std.specs.Prelude.{ℕ, ◌≡◌, List, Ok}
 use Rattle.std.specs.Coded.{Coded-set, coded_ℕ, coded_ℤ, coded_list, le_prop}
 use Rattle.std.proofs.Math.Option.{Option, none, some}
 use Rattle.std.specs.Prelude as code

@@ -1,6 +1,5 @@
 use Rattle.std.proofs.Common.{get_or, pos}
-use Rattle.instance.proofs.Numbers.{number_fits}
-use Rattle.instance.proofs.Numbers.{numbers}
+use Rattle.instance.proofs.Numbers.{number_fits, numbers}
 use Rattle.instance.proofs.number_at.Goals as goal
 
 pub overflow_cast-result : goal.overflow_cast-result

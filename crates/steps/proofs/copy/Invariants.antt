@@ -1,4 +1,4 @@
-use Rattle.std.proofs.Common.{drop, length, ◌-◌, ◌≡◌, ◌≤◌}
+use Rattle.std.proofs.Common.{drop, length, ◌≡◌, ◌≤◌}
 use lib.Seq.{paste}
 use Rattle.steps.proofs.copy.Given as goal
 
