@@ -3,6 +3,7 @@
  * Every call answers for every input; none relies on an earlier one. A call returns a number, 0 for accepted or written and else the
  * number of the refusal, and writes the refusal's place (or the length written) through its pointer. A refusal leaves a room as it was.
  * The numbers are listed below. No call uses a heap, a global or a file, and each may be made from several threads at once.
+ * From outside the archive needs memcpy and memset, and nothing else.
  *
  * What the caller owes: each pointer points to as many elements as the count beside it says, and is not null, also where that count
  * is 0; what is written through (room, place, start, count, clause, values) overlaps nothing else that the call is handed.

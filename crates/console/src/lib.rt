@@ -82,10 +82,11 @@ pub fn filled<R: Read>(input: &mut R, room: &mut [u8]) -> io::Result<bool>
     Ok(n == room.len())
 }
 
-// Puts n bytes into the front of the room; the rest keeps its bytes.
+// Puts n bytes into the front of the room, or those that are left of the input; the rest keeps its bytes.
 pub fn put_bytes<R: Read>(input: &mut R, room: &mut [u8], n: usize) -> io::Result<()>
     requires { n ≤ length room.old }
     ensures length { length room.new ≡ length room.old }
+    ensures bytes { IfOk result (λ _. Consumes (R.remaining input.old) (R.remaining input.new) (take n room.new) ⊎ IsAtEnd (R.remaining input.new)) }
     ensures rest { drop n room.new ≡ drop n room.old }
 {
     read_full(input, &mut room[..n])?;

@@ -7,8 +7,8 @@ use native.Mathlib.Nat.{not-suc-le-zero, le_of_suc-le-suc}
 use native.Mathlib.Numerals.{add-one}
 use native.Mathlib.Omega.{arith}
 use lib.ListN.{length, get_or, set, take, drop, replicate, length-map}
-use lib.Seq.{take_all, take-suc, length-take-le}
-use Rattle.std.proofs.lemmas.List.{length-take, map-append}
+use lib.Seq.{take_all}
+use Rattle.std.proofs.lemmas.List.{length-take, get_or-map}
 use lib.IntN.{ℤ, pos}
 use lib.Signed.{mag}
 use mir.Syntax.{w32}
@@ -17,7 +17,7 @@ use Rattle.whole.specs.Whole.{own}
 use Rattle.meaning.specs.Book.{Book, Window, place_window}
 use Rattle.meaning.specs.State.{Control, flags, bit, low_row, low_rows, first}
 use Rattle.lists.specs.Trace.{flat, state_numbers}
-use Rattle.steps.specs.Put.{Put, put-more, put_as}
+use Rattle.steps.specs.Put.{Put, put-next}
 use Rattle.state.specs.State.{front, rows_of, placed, state_of}
 use Rattle.state.specs.Laws.{front-take, rows-cons, front-more, front-replicate}
 use Rattle.state.proofs.Shape.{arity-cons, arity-none, relations-few}
@@ -35,13 +35,11 @@ bit-is true = refl
 bit-is false = refl
 
 -- one flag more
-pub flags-more : (d e : List ℤ) (at j : ℕ) (fs : List Bool) → Put d e at (map bit (take j fs)) → at + length fs ≤ length d → j < length fs
-    → Put d (set e (at + j) (to_z w32 (bool_byte (get_or fs j false)))) at (map bit (take (j + 1) fs))
+pub flags-more : (d e : List ℤ) (at j : ℕ) (fs : List Bool) → Put d e at (take j (map bit fs)) → at + length fs ≤ length d → j < length fs
+    → Put d (set e (at + j) (to_z w32 (bool_byte (get_or fs j false)))) at (take (j + 1) (map bit fs))
 flags-more d e at j fs w h k =
-    let n : length (map bit (take j fs)) ≡ j = length-map (take j fs) bit ∙ length-take-le j fs (omega arith) in
-    let x = to_z w32 (bool_byte (get_or fs j false)) in
-    let all : map bit (take j fs) ++ (x ∷ []) ≡ map bit (take (j + 1) fs) = rw (add-one j, take-suc fs j false k, map-append, bit-is) refl in
-    put_as (rw n at (put-more w x (omega (arith, n)))) all
+    let n = length-map fs bit in
+    rw (bit-is, ← (get_or-map bit fs j false (pos 0) k)) (put-next at j (map bit fs) (pos 0) w (omega (arith, n)) (omega (arith, n)))
 
 -- ---- places
 

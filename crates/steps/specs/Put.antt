@@ -1,7 +1,8 @@
 -- Numbers written into lent room.
-use Rattle.std.specs.Prelude.{◌≡◌, List, [], ◌∷◌, ◌++◌, ℕ, ◌+◌, ◌≤◌, ◌<◌, length, set, take, drop, ℤ}
+use Rattle.std.specs.Prelude.{◌≡◌, List, [], ◌∷◌, ◌++◌, ℕ, ◌+◌, ◌≤◌, ◌<◌, length, get_or, set, take, drop, ℤ}
 use Rattle.std.proofs.Common.{sym, ap, ◌∙◌, append_assoc, add-one, arith, length-append, length-drop, take-append-drop, length-take-le, take_at, drop_at, drop-drop}
 use Rattle.std.proofs.lemmas.List.{set_split}
+use lib.Seq.{take-suc}
 
 -- e is d with the numbers p from place `at` on, and every other number as it was
 pub record Put (d e : List ℤ) (at : ℕ) (p : List ℤ) : Type 0 where
@@ -48,6 +49,12 @@ module _ {d e : List ℤ} {at : ℕ} {p : List ℤ} (w : Put d e at p) where
         room = omega (arith, put-length);
         is = set_split e n x (omega (arith, put-length)) ∙ ap (λ (k : ℕ). take n e ++ (x ∷ drop k e)) (sym (add-one n));
       })
+
+-- one number more of a list
+pub put-next : {d e : List ℤ} (at j : ℕ) (xs : List ℤ) (z : ℤ) → Put d e at (take j xs) → at + length xs ≤ length d → j < length xs → Put d (set e (at + j) (get_or xs j z)) at (take (j + 1) xs)
+put-next at j xs z w h k =
+    let n : length (take j xs) ≡ j = length-take-le j xs (omega arith) in
+    rw (add-one j, take-suc xs j z k) (rw n at (put-more w (get_or xs j z) (omega (arith, n))))
 
 -- nothing yet
 pub put-none : (d : List ℤ) (at : ℕ) → at ≤ length d → Put d d at []

@@ -1,22 +1,14 @@
-use Rattle.std.proofs.Common.{arith, drop, length-set, ◌≡◌}
-use lib.Seq.{paste-zero}
-use Rattle.steps.proofs.Laws.{copy_more, copied}
+use Rattle.std.proofs.Common.{arith, drop, length, length-drop, length-set, length-take-le, pos, sym, take, ◌≡◌, ◌∙◌, w32}
+use lib.Seq.{get_or-drop, get_or-take}
+use Rattle.whole.specs.Whole.{own}
+use Rattle.steps.specs.Put.{put-next}
 use Rattle.steps.proofs.copy.Goals as goal
-
-pub loop-j-init : goal.loop-j-init
-loop-j-init c = (omega arith, omega arith, paste-zero c.args.room.now c.args.at (drop c.args.from c.args.list.now))
 
 pub loop-j-preserved : goal.loop-j-preserved
 loop-j-preserved c =
     let a = c.args in
-    let t = c.loop-j in (
-      rw length-set t.invariant.0,
-      omega arith,
-      copy_more a.room.now a.at a.list.now a.from t.j t.invariant.2 (omega arith) (omega arith) c.room-1.given,
-    )
-
-pub returns : goal.returns
-returns c =
-    let a = c.args in
-    let z : c.loop-j.j ≡ a.n = omega arith in
-    copied a.room.now a.at a.list.now a.from a.n (rw z at c.loop-j.invariant.2) (omega arith) (omega arith)
+    let t = c.loop-j in
+    let rest = drop a.from a.list.now in
+    let long : length (take a.n rest) ≡ a.n = length-take-le a.n rest (rw length-drop (omega arith)) in
+    let x = sym (get_or-take a.n rest t.j (pos 0) (omega arith) ∙ get_or-drop a.from a.list.now t.j (pos 0)) in
+    (rw length-set t.invariant.0, rw (own w32 _ c.room-1.given, x) (put-next a.at t.j (take a.n rest) (pos 0) t.invariant.1 (omega (arith, long)) (omega (arith, long))))
